@@ -1,4 +1,4 @@
-//! Checks and runs Kahn process networks that are described on standard input.
+//! Checks and runs Kahn process networks described on standard input.
 #![tactic(auto)]
 
 use kpn_args::WordsFault;
@@ -14,7 +14,6 @@ fn main(rt: HostRuntime) -> ExitCode {
     ExitCode::from(status_of(&rt))
 }
 
-/// Reads the arguments, does what they ask for, and returns the exit status.
 fn status_of<R: Env + Input + Print + Eprint + AllocGlobal + Wait + Clock + Threads + Sync>(
     rt: &R,
 ) -> u8 {
@@ -41,7 +40,7 @@ fn status_of<R: Env + Input + Print + Eprint + AllocGlobal + Wait + Clock + Thre
     }
 }
 
-/// Says on standard error why a description was refused.
+/// Writes to standard error why a description was refused.
 fn say_why<R: Eprint>(rt: &R, served: &Served) {
     let _ = match (&served.message, served.fault) {
         (Some(message), _) => eprintln!(rt; "kpn: {message}"),
@@ -50,8 +49,8 @@ fn say_why<R: Eprint>(rt: &R, served: &Served) {
     };
 }
 
-/// Says on standard error that the description comes from standard input, if the arguments name a file. An argument
-/// is taken for one if it is no option, no value of an option and no subcommand.
+/// Writes to standard error that the description comes from standard input, if an argument seems to name a
+/// file: the first after the subcommand that is neither an option nor an option's value.
 fn say_where_it_reads<R: Eprint>(rt: &R, texts: &[&str]) {
     let Some(command) = texts.get(1) else {
         return;
@@ -66,26 +65,23 @@ fn say_where_it_reads<R: Eprint>(rt: &R, texts: &[&str]) {
     }
 }
 
-/// Says how a description is given that is in this file.
 fn say_input<R: Eprint>(rt: &R, command: &str, file: &str) {
     let _ = eprintln!(rt;
         "\nkpn reads the description from standard input:\n  kpn {command} < {file}"
     );
 }
 
-/// Says that the arguments could not be collected, since memory was refused.
 fn say_no_memory<R: Eprint>(rt: &R) -> u8 {
     let _ = eprintln!(rt; "kpn: out of memory while reading the arguments");
     Status::WrongArguments.code()
 }
 
-/// The arguments, the first of which is the program's name.
+/// Returns the arguments; the first is the program's name.
 fn arguments_of<R: Env + AllocGlobal>(rt: &R) -> io::Result<Vec<String>> {
     let arguments: Vec<String> = env::args(rt)?.collect(rt.alloc())?;
     Ok(arguments)
 }
 
-/// The arguments as slices.
 fn texts_of<'a>(rt: &impl AllocGlobal, arguments: &'a Vec<String>) -> io::Result<Vec<&'a str>> {
     let mut texts = Vec::with_capacity(rt.alloc(), arguments.len())?;
     for argument in arguments {
@@ -94,7 +90,7 @@ fn texts_of<'a>(rt: &impl AllocGlobal, arguments: &'a Vec<String>) -> io::Result
     Ok(texts)
 }
 
-/// Writes help to standard output, and a fault of the arguments to standard error.
+/// Writes help to standard output, and a fault of the arguments to standard error. Returns the exit status.
 fn say_words_refused<R: Print + Eprint>(rt: &R, fault: &WordsFault) -> u8 {
     let said = if fault.asks_for_help() {
         print!(rt; "{fault}")

@@ -1,4 +1,4 @@
--- What the arguments of the command line ask for, and why they are refused.
+-- What the arguments ask for, and why they are refused.
 use Rattle.std.specs.Prelude.{◌≡◌, ◌≤◌, ◌++◌, ℕ, decimal, Bool, true, false, codes, List, [], Option, Some, None, option_map}
 use Rattle.std.specs.Str.Parse.{IsNumeral, digits_value, without_leading_plus}
 use Rattle.clap.specs.Words.{HasKind, Row, Text, fault_of, first_of, kind_of, subcommand_of}
@@ -15,7 +15,6 @@ use Rattle.kpn_args.specs.Command.{kpn}
 abbrev pub ReadsWorkers : Text → ℕ → Type 0
 ReadsWorkers text n = IsNumeral 10 (without_leading_plus text) × (digits_value 10 (without_leading_plus text) ≡ n) × (1 ≤ n) × (n ≤ MAX_WORKERS)
 
--- what the text is read as: a number of workers, or none
 abbrev pub IsWorkers : Text → Option ℕ → Type 0
 IsWorkers text (Some n) = ReadsWorkers text n
 IsWorkers text None = (n : ℕ) → ReadsWorkers text n → ⊥
@@ -37,7 +36,6 @@ IsChoiceOf (Some p) Check = p.0 ≡ codes "check"
 IsChoiceOf (Some p) (Run workers show) =
     (p.0 ≡ codes "run") × WorkersFrom (first_of (codes "workers") p.1) workers × (option_map (λ s. s.now) show ≡ first_of (codes "show") p.1)
 
--- the workers of a run are as many as it may have
 abbrev pub HasFewWorkers : Choice → Type 0
 HasFewWorkers Check = Unit {0}
 HasFewWorkers (Run workers show) = (1 ≤ workers) × (workers ≤ MAX_WORKERS)
@@ -54,19 +52,17 @@ AreTaken words = fault_of kpn words ≡ []
 abbrev pub IsChoice : List Text → Choice → Type 0
 IsChoice words choice = AreTaken words × IsChoiceOf (subcommand_of kpn words) choice
 
--- the command line refuses the arguments with this kind of error, or memory was refused; or it accepts them, and the text of
+-- the command line refuses the arguments with this kind of error, or out of memory; or the text of
 -- `--workers` is no number of workers
 abbrev pub IsWordsFault : List Text → WordsFault → Type 0
 IsWordsFault words (Parser e) = HasKind (fault_of kpn words) e
 IsWordsFault words Workers = AreTaken words × HasRefusedWorkers (subcommand_of kpn words)
 
--- this kind of error is a text that was asked for
 abbrev pub is_text_asked_for : ErrorKind → Bool
 is_text_asked_for DisplayHelp = true
 is_text_asked_for DisplayVersion = true
 is_text_asked_for _ = false
 
--- the arguments ask for the help or the version
 abbrev pub asks_for_help : WordsFault → Bool
 asks_for_help (Parser e) = is_text_asked_for (kind_of e)
 asks_for_help Workers = false

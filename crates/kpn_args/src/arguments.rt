@@ -15,7 +15,7 @@ use std::{error, fmt};
 /// The greatest number of workers of a run.
 pub const MAX_WORKERS: usize = 16;
 
-/// The statuses with which the program exits, as its help lists them.
+/// The exit statuses, as help lists them.
 const STATUSES: &str = "\
 Exit status:
   0  the run terminated, the description was accepted, or help was asked for
@@ -29,7 +29,7 @@ Exit status:
   8  internal error: a worker's answer was rejected; the run was abandoned
 ";
 
-/// Where the subcommands find the description, and how one is written.
+/// Help on where the description comes from and how to write one.
 const INPUT: &str = "\
 The description is TOML, read from standard input. Its keys, and in brackets what holds if one is absent:
   version         1 or 2
@@ -74,27 +74,25 @@ Example:
 pub enum Choice<'a> {
     /// `kpn check`: whether the description is a network.
     Check,
-    /// `kpn run`: the run of the network by `workers` workers (1 to `MAX_WORKERS`), and the name of the
-    /// channel whose tokens to show.
+    /// `kpn run`: the number of workers, 1 to `MAX_WORKERS`, and the name of the channel to show.
     Run {
         workers: usize,
         show: Option<&'a str>,
     },
 }
 
-/// Why the arguments give no choice. Its `Display` is the text for the user, which ends a line.
+/// Why the arguments give no choice. Its `Display` is the text for the user, with a line feed.
 #[derive(Debug, Drop)]
 pub enum WordsFault {
-    /// The command line refuses the arguments, or they ask for help or the version, or memory was
-    /// refused.
+    /// The command line refuses the arguments, they ask for help or the version, or out of memory.
     Parser(clap::Error),
     /// The text of `--workers` is no number from 1 to `MAX_WORKERS`.
     Workers,
 }
 
 impl WordsFault {
-    /// Returns whether the arguments ask for help or for the version. Their text then goes to standard
-    /// output, otherwise to standard error.
+    /// Returns whether the arguments ask for help or the version. Their text then goes to standard output,
+    /// otherwise to standard error.
     pub fn asks_for_help(&self) -> bool
         ensures { result ≡ asks_for_help self.now }
     {
@@ -107,7 +105,7 @@ impl WordsFault {
         }
     }
 
-    /// Returns `Success` if help or the version was asked for, and otherwise `WrongArguments`.
+    /// Returns `Success` if help or the version was asked for, otherwise `WrongArguments`.
     pub fn status(&self) -> Status
         ensures { result ≡ (if asks_for_help self.now then Status.Success else Status.WrongArguments) }
     {
@@ -139,11 +137,11 @@ impl fmt::Display for WordsFault {
 
 impl error::Error for WordsFault {}
 
-/// Reads what the arguments ask for. The first of them is the program's name.
+/// Reads what the arguments ask for. The first is the program's name.
 ///
-/// Errors: `Parser` if the command line refuses the arguments, with the kind of error that clap has for
-/// them (a call for help or for the version is one), or if memory was refused. `Workers` if the command
-/// line accepts the arguments, but the text of `--workers` is not a number from 1 to `MAX_WORKERS`.
+/// Errors: `Parser`, with clap's kind of error, if the command line refuses the arguments or they ask for
+/// help or the version, or if out of memory. Otherwise `Workers`, if the text of `--workers` is not a number
+/// from 1 to `MAX_WORKERS`.
 pub fn read_words<'a>(alloc: Global, words: &'a [&'a str]) -> Result<Choice<'a>, WordsFault>
     ensures ok { IfOk result (IsChoice (map (λ w. w.now) words.entry.now)) }
     ensures workers { IfOk result HasFewWorkers }
@@ -156,7 +154,6 @@ pub fn read_words<'a>(alloc: Global, words: &'a [&'a str]) -> Result<Choice<'a>,
     choice_of(name, entries)
 }
 
-/// The choice that a subcommand and its entries ask for.
 fn choice_of<'a>(name: &str, entries: &ArgMatches<'a>) -> Result<Choice<'a>, WordsFault>
     requires { (name.now ≡ codes "check") ⊎ (name.now ≡ codes "run") }
     ensures ok { IfOk result (IsChoiceOf (Some (name.now, rows_of (found_of entries.now)))) }
@@ -170,7 +167,6 @@ fn choice_of<'a>(name: &str, entries: &ArgMatches<'a>) -> Result<Choice<'a>, Wor
     }
 }
 
-/// The choice that the entries of `run` ask for.
 fn run_choice<'a>(entries: &ArgMatches<'a>) -> Result<Choice<'a>, WordsFault>
     ensures ok { IfOk result (IsChoiceOf (Some (codes "run", rows_of (found_of entries.now)))) }
     ensures few { IfOk result HasFewWorkers }
@@ -181,7 +177,7 @@ fn run_choice<'a>(entries: &ArgMatches<'a>) -> Result<Choice<'a>, WordsFault>
     Ok(Choice::Run { workers, show })
 }
 
-/// The number of workers that a text asks for; 1 if there is no text.
+/// Returns 1 if there is no text.
 fn workers_in(text: Option<&str>) -> Result<usize, WordsFault>
     ensures ok { IfOk result (WorkersFrom (option_map (λ s. s.now) text.entry)) }
     ensures few { IfOk result (λ n. (1 ≤ n) × (n ≤ MAX_WORKERS)) }
@@ -193,7 +189,6 @@ fn workers_in(text: Option<&str>) -> Result<usize, WordsFault>
     }
 }
 
-/// Reads a text as a number of workers; `None` if it is none.
 fn workers_of(text: &str) -> Option<usize>
     ensures { IsWorkers text.now result }
 {
@@ -203,21 +198,18 @@ fn workers_of(text: &str) -> Option<usize>
     }
 }
 
-/// The first text of an option.
 fn text_in<'a>(entries: &ArgMatches<'a>, id: &str) -> Option<&'a str>
     ensures { option_map (λ s. s.now) result ≡ first_of id.now (rows_of (found_of entries.now)) }
 {
     entries.get_str(id)
 }
 
-/// The subcommand and its entries.
 fn subcommand_in<'a, 'b>(matches: &'b ArgMatches<'a>) -> Option<(&'a str, &'b ArgMatches<'a>)>
     ensures { option_map (λ p. (p.0.now, rows_of (found_of p.1.now))) result ≡ subcommand_rows_of matches.now }
 {
     matches.subcommand()
 }
 
-/// Parses the arguments.
 fn matches_of<'a>(alloc: Global, words: &'a [&'a str]) -> Result<ArgMatches<'a>, WordsFault>
     ensures taken { IfOk result (λ m. AreTaken (map (λ w. w.now) words.entry.now)) }
     ensures matches { IfOk result (λ m. subcommand_rows_of m ≡ subcommand_of kpn (map (λ w. w.now) words.entry.now)) }
@@ -233,7 +225,6 @@ fn parse<'a>(alloc: Global, words: &'a [&'a str]) -> Result<ArgMatches<'a>, clap
     command(alloc)?.try_get_matches_from(words)
 }
 
-/// The command line of the program.
 fn command<'a>(alloc: Global) -> Result<Command<'a>, AllocError>
     ensures { Makes kpn result }
 {
@@ -241,7 +232,6 @@ fn command<'a>(alloc: Global) -> Result<Command<'a>, AllocError>
     with_subcommand(command, run(alloc))
 }
 
-/// The command line without subcommands.
 fn bare_command<'a>(alloc: Global) -> Command<'a>
     ensures { app_of result ≡ bare_command }
 {
@@ -271,14 +261,12 @@ fn run<'a>(alloc: Global) -> Result<Command<'a>, AllocError>
     with_arg(run, option(alloc, "show", "NAME", show))
 }
 
-/// A subcommand without arguments.
 fn bare<'a>(alloc: Global, name: &'a str, about: &'a str) -> Command<'a>
     ensures { IsLocal (new_app name.now) result }
 {
     Command::new(alloc, name).about(about).after_help(INPUT)
 }
 
-/// An option `--name VALUE`.
 fn option<'a>(alloc: Global, name: &'a str, value: &'a str, help: &'a str) -> Arg<'a>
     ensures rule { rule_of result ≡ option_rule name.now }
     ensures local { result.global ≡ false }

@@ -1,4 +1,4 @@
-//! The arguments of the program `kpn`, and what they ask for.
+//! The arguments of `kpn`, and what they ask for.
 #![tactic(auto)]
 
 mod arguments;

@@ -1,5 +1,5 @@
-//! How a command line is made, one argument and one subcommand after the other. Once memory was refused nothing is
-//! made any more, so a caller sees that at the end.
+//! Makes a command line one argument or subcommand at a time, passing an error on to the end, where the
+//! caller sees it.
 ghost use Rattle.std.specs.Prelude.{◌≡◌, false};
 ghost use Rattle.clap.specs.Words.{App, Rule, rule_of, with_rule, with_subcommand};
 ghost use Rattle.kpn_args.specs.Made.{Makes, MakesLocal};
@@ -7,9 +7,9 @@ ghost use Rattle.kpn_args.specs.Made.{Makes, MakesLocal};
 use clap::{Arg, Command};
 use std::alloc::{AllocError, Global};
 
-/// A command with one argument more.
+/// Adds an argument to a command.
 ///
-/// Errors: memory was refused, now or before.
+/// Errors: out of memory, now or before.
 pub fn with_arg<'a>(
     command: Result<Command<'a>, AllocError>,
     arg: Arg<'a>,
@@ -20,9 +20,9 @@ pub fn with_arg<'a>(
     command?.arg(arg)
 }
 
-/// A command with one subcommand more.
+/// Adds a subcommand to a command.
 ///
-/// Errors: memory was refused, now or before.
+/// Errors: out of memory, now or before.
 pub fn with_subcommand<'a>(
     command: Result<Command<'a>, AllocError>,
     subcommand: Result<Command<'a>, AllocError>,

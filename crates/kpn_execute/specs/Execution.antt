@@ -16,7 +16,6 @@ use Rattle.kpn_front.specs.declared.status.Status.TheVariants.{Success, WrongArg
 use Rattle.kpn_front.specs.Lines.{lost_line, refused_line, no_channel_line}
 use Rattle.kpn_front.specs.Written.{SinkView, Says}
 
--- the exit status of a run with this end
 abbrev pub status_of_end : End → Status
 status_of_end Terminated = Success
 status_of_end Budget = BudgetSpent
@@ -32,12 +31,12 @@ pub record TellsNoChannel (net : Network) (show : Option (List ℕ)) (status : S
   pub status_is : status ≡ WrongArguments
   pub text_is : text ≡ no_channel_line name
 
--- this is the channel to show, if there is one
+-- this is the channel to show, if any
 abbrev pub IsChannelToShow : Network → Option (List ℕ) → Option ℕ → Type 0
 IsChannelToShow net None channel = channel ≡ None
 IsChannelToShow net (Some name) channel = (channel ≡ number_of_channel net name) × (channel ≢ None)
 
--- memory was refused, before the first deed or for the report
+-- out of memory, before the first deed or for the report
 pub record TellsNoMemory (status : Status) (text : List ℕ) : Type 0 where
   pub status_is : status ≡ MemoryRefused
   pub text_is : text ≡ refused_line OutOfMemory
@@ -52,8 +51,8 @@ pub record TellsLost (workers : ℕ) (status : Status) (text : List ℕ) : Type 
 abbrev pub IsTextOfEveryRun : Family → Network → Option ℕ → List ℕ → Type 0
 IsTextOfEveryRun kinds net channel text = (F : List Entry) (N : State) (b : End) → IsFinal kinds net F N b → text ≡ report_text kinds net b F N channel
 
--- a run from the start ended for a cause that justifies its end; it took no more room than the network needs, and its streams
--- approach the least solution of the network's equations
+-- a run ended, with a justified end; it took no more room than the network needs, and its streams approach
+-- the least solution
 pub record TellsRun (kinds : Family) (net : Network) (channel : Option ℕ) (status : Status) (text : List ℕ) : Type 0 where
   pub history : List Entry
   pub state : State
@@ -66,23 +65,23 @@ pub record TellsRun (kinds : Family) (net : Network) (channel : Option ℕ) (sta
   pub text_is : text ≡ report_text kinds net cause history state channel
   pub every : has_report cause ≡ true → IsTextOfEveryRun kinds net channel text
 
--- what is written of a run that ended
+-- written of a run that ended
 abbrev pub TellsEnded : Family → Network → Option ℕ → Status → List ℕ → Type 0
 TellsEnded kinds net channel status text = TellsNoMemory status text ⊎ TellsRun kinds net channel status text
 
--- what is written of a network run by this number of workers, if `--show` names a channel or is absent
+-- written of a network run by this number of workers, if `--show` is absent or names a channel
 abbrev pub TellsShown : Family → Network → ℕ → Option ℕ → Status → List ℕ → Type 0
 TellsShown kinds net workers channel status text = TellsLost workers status text ⊎ TellsEnded kinds net channel status text
 
--- what is written of a network run by this number of workers, and the status
+-- written of a network run by this number of workers, and the status
 abbrev pub Tells : Family → Network → ℕ → Option (List ℕ) → Status → List ℕ → Type 0
 Tells kinds net workers show status text = TellsNoChannel net show status text ⊎ ((channel : Option ℕ) × IsChannelToShow net show channel × TellsShown kinds net workers channel status text)
 
--- the same, or that memory for the bodies was refused
+-- or out of memory for the bodies
 abbrev pub TellsOrNoMemory : Family → Network → ℕ → Option (List ℕ) → Status → List ℕ → Type 0
 TellsOrNoMemory kinds net workers show status text = TellsNoMemory status text ⊎ Tells kinds net workers show status text
 
--- what is told is written, a text and the status that belongs to it
+-- a text is written, with its status
 pub record Writes (tells : Status → List ℕ → Type 0) (before after : SinkView) (number : ℕ) : Type 0 where
   pub status : Status
   pub text : List ℕ
@@ -93,6 +92,6 @@ pub record Writes (tells : Status → List ℕ → Type 0) (before after : SinkV
 abbrev pub Executes : Family → Network → ℕ → Option (List ℕ) → SinkView → SinkView → ℕ → Type 0
 Executes kinds net workers show before after number = Writes (Tells kinds net workers show) before after number
 
--- the same for a program that makes the bodies of the network
+-- what a program that makes the bodies of the network writes
 abbrev pub MakesAndExecutes : Family → Network → ℕ → Option (List ℕ) → SinkView → SinkView → ℕ → Type 0
 MakesAndExecutes kinds net workers show before after number = Writes (TellsOrNoMemory kinds net workers show) before after number

@@ -1,4 +1,4 @@
--- What the program does, from its arguments and its input to what it writes.
+-- The program, from its arguments and input to its output.
 use Rattle.std.specs.Prelude.{◌≡◌, ℕ, Bool, true, false, List, Option, Some, None, IfSome, option_map, Result, Ok, Err}
 use Rattle.kpn_sketch.specs.declared.fault.NetFault.{NetFault}
 use Rattle.kpn_sketch.specs.declared.fault.NetFault.TheVariants.{Input}
@@ -14,22 +14,21 @@ use Rattle.kpn_front.specs.Loading.{Loads}
 use Rattle.kpn_front.specs.Written.{SinkView}
 use Rattle.kpn_execute.specs.Execution.{TellsOrNoMemory, Writes}
 
--- the fault of a description that was refused
 abbrev pub fault_of : Result Network NetFault → Option NetFault
 fault_of (Ok net) = None
 fault_of (Err fault) = Some fault
 
--- what is written of a network: that it is one, or how it ran
+-- written of a network: that it is one, or how it ran
 abbrev pub TellsOf : Choice → Network → Status → List ℕ → Type 0
 TellsOf Check net status text = (status ≡ Success) × (text ≡ checked_line net)
 TellsOf (Run workers show) net status text = TellsOrNoMemory standard net workers (option_map (λ s. s.now) show) status text
 
--- what is written of a description that was loaded, or refused
+-- written of a description that was loaded or refused
 abbrev pub TellsLoaded : Choice → Result Network NetFault → Status → List ℕ → Type 0
 TellsLoaded choice (Ok net) status text = TellsOf choice net status text
 TellsLoaded choice (Err fault) status text = (status ≡ status_of_fault fault) × (text ≡ refused_line fault)
 
--- the input is loaded, and what the choice asks for is written; known of the input are its bytes, if they are known at all, and
+-- the input is loaded, and the choice's text is written; known of the input are its bytes, if at all, and
 -- whether a read had failed before and after
 pub record Serves (choice : Choice) (input : Option (List ℕ)) (failed_before failed_after : Bool) (before after : SinkView) (status : ℕ) (fault : Option NetFault) : Type 0 where
   pub loaded : Result Network NetFault

@@ -1,4 +1,4 @@
-//! Networks of families for which a plain function answers, with bodies that are made here.
+//! Networks of families with a plain function for their answers.
 ghost use Rattle.std.specs.Prelude.{◌≤◌, option_map};
 ghost use Rattle.kpn_model.specs.Families.{family};
 ghost use Rattle.kpn_execute.specs.Execution.{MakesAndExecutes};
@@ -12,10 +12,10 @@ use std::rt::Clock;
 use std::sync::Wait;
 use std::thread::Threads;
 
-/// Runs a network of a family for which a plain function answers, by 1 to 16 workers, and writes the
-/// report, as `execute` does. A body is made for each process.
+/// Runs a network of a family with a plain function for its answers, with 1 to 16 workers, like `execute`,
+/// and makes a body for each process.
 ///
-/// Returns the exit status of `execute`, or 4 if memory for the bodies is refused (`refused 14`).
+/// Returns the exit status of `execute`, or 4 if out of memory for the bodies (`refused 14`).
 pub fn execute_net<K: Computes, S: Sink, R: Wait + Clock + Threads + Sync>(
     rt: &R,
     alloc: Global,

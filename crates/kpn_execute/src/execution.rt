@@ -1,4 +1,4 @@
-//! Running a network, and writing the report.
+//! Runs a network and writes the report.
 ghost use Rattle.std.specs.Prelude.{◌≡◌, ◌≢◌, ◌<◌, ◌≤◌, Some, None, IfOk, IfErr, IsSome, map, option_map, string_bytes};
 ghost use Rattle.kpn_model.specs.Network.{number_of_channel};
 ghost use Rattle.kpn_model.specs.Families.{family};
@@ -18,14 +18,13 @@ use std::rt::Clock;
 use std::sync::Wait;
 use std::thread::Threads;
 
-/// What is written of a run, and its status.
+/// The text about a run, and its status.
 #[derive(Drop)]
 struct Told {
     status: Status,
     text: String,
 }
 
-/// A network to be run by 1 to 16 workers, with a body for each process.
 #[derive(Drop)]
 struct RunRequest<B: Body> {
     net: Net<B::Kinds>,
@@ -33,23 +32,20 @@ struct RunRequest<B: Body> {
     workers: usize,
 }
 
-/// Runs a network by 1 to 16 workers, with a body for each process, and writes the report of the run,
-/// with the stream of the channel that `show` names. A single worker is the calling thread,
-/// which then takes no lock. Several call the bodies outside the lock, so a body may wait for another's
-/// call.
+/// Runs a network with 1 to 16 workers and a body for each process, and writes the report, with the stream of
+/// the channel named by `show`. A single worker is the calling thread, without a lock. Several call the
+/// bodies outside the lock, so a body may wait for another.
 ///
-/// If the run came to its own end, each run of the network that is over has the same text, whatever the
-/// schedule. If capacity b suffices for the network, no channel of capacity b or more grows in the run
-/// (Parks 1995; docs/least-room.md). The streams are below every solution of the network's equations,
-/// and if the run terminated or ended in a deadlock they are the least solution (Kahn 1974;
-/// docs/least-solution.md).
+/// If the run is over, each run of the network that is over has the same text. If capacity b suffices for the
+/// network, no channel of capacity b or more grows (Parks 1995; docs/least-room.md). The streams are below
+/// every solution of the network's equations, and are the least solution if the run terminated or deadlocked
+/// (Kahn 1974; docs/least-solution.md).
 ///
 /// Returns the exit status:
 ///
-/// - 0 if the run terminated, 5 if it ended in a deadlock, 6 at the ceiling, 3 if its budget was spent;
-/// - 1 if no channel has the name `show` (nothing is then run, and `no channel NAME` is written);
-/// - 4 if memory was refused: before the run or for the report (`refused 14`), or for a growth
-///   (`end memory`);
+/// - 0 if the run terminated, 5 if it deadlocked, 6 at the ceiling, 3 if its budget was spent;
+/// - 1 if no channel has the name `show` (writes `no channel NAME` and runs nothing);
+/// - 4 if out of memory: before the run or for the report (`refused 14`), or for a growth (`end memory`);
 /// - 7 if the write fails;
 /// - 8 if the machine refused an answer of one of several workers (`lost`).
 pub fn execute<B: Body, S: Sink, R: Wait + Clock + Threads + Sync>(
@@ -78,7 +74,7 @@ pub fn execute<B: Body, S: Sink, R: Wait + Clock + Threads + Sync>(
     }
 }
 
-/// The channel to show, if there is one; or the name to which no channel answers.
+/// Returns the channel to show, if any; or a name that no channel has.
 fn channel_to_show<'a, K: Kinds>(
     net: &Net<K>,
     show: Option<&'a str>,
@@ -95,7 +91,6 @@ fn channel_to_show<'a, K: Kinds>(
     }
 }
 
-/// Runs a network and writes the report, with the stream of a channel if one is given.
 fn tell<B: Body, S: Sink, R: Wait + Clock + Threads + Sync>(
     rt: &R,
     alloc: Global,
@@ -114,8 +109,7 @@ fn tell<B: Body, S: Sink, R: Wait + Clock + Threads + Sync>(
     }
 }
 
-/// Runs a network in the calling thread and writes the report. `tell` calls it with bodies that fit, so a machine that
-/// is not opened was refused memory.
+/// `tell` calls it with bodies that fit, so opening a machine fails only if out of memory.
 #[inline(never)]
 fn tell_alone<B: Body, S: Sink>(
     alloc: Global,
@@ -134,7 +128,6 @@ fn tell_alone<B: Body, S: Sink>(
     say_told(alloc, &chronicle, chronicle.keeper(), channel, sink)
 }
 
-/// Runs a network by several workers and writes the report.
 #[inline(never)]
 fn tell_by_workers<B: Body, S: Sink, R: Wait + Clock + Threads + Sync>(
     rt: &R,
@@ -164,7 +157,6 @@ fn tell_by_workers<B: Body, S: Sink, R: Wait + Clock + Threads + Sync>(
     }
 }
 
-/// Writes what there is to write of a run that ended, whose entries are these.
 fn say_told<K: Kinds, H: Keeper, E: Entries, S: Sink>(
     alloc: Global,
     chronicle: &Chronicle<K, H>,
@@ -182,7 +174,6 @@ fn say_told<K: Kinds, H: Keeper, E: Entries, S: Sink>(
     }
 }
 
-/// The text of a run that ended, whose entries are these, and its status.
 fn told_of<K: Kinds, H: Keeper, E: Entries>(
     alloc: Global,
     chronicle: &Chronicle<K, H>,
@@ -208,7 +199,6 @@ fn told_of<K: Kinds, H: Keeper, E: Entries>(
     })
 }
 
-/// The exit status of a run with this end.
 fn status_of(end: End) -> Status
     ensures { result ≡ status_of_end end }
 {

@@ -1,4 +1,4 @@
-//! The program from its arguments and its input to what it writes, and the run of a network by workers.
+//! The program, and the run of a network by workers.
 //!
 //! ```text
 //! (Ok(net), Choice::Run { workers, show }) => {

@@ -1,4 +1,4 @@
-//! The program, from its arguments and its input to what it writes.
+//! The program, from its arguments and input to its output.
 ghost use Rattle.std.specs.Prelude.{◌≡◌, ◌≢◌, ◌+◌, [], Some, None, string_bytes, IfSome, IfOk, IfErr, OnErr, map};
 ghost use Rattle.kpn_args.specs.Choices.{HasFewWorkers, IsChoice, IsWordsFault};
 ghost use Rattle.kpn_front.specs.Lines.{refused_line, status_of_fault};
@@ -19,15 +19,14 @@ use std::rt::Clock;
 use std::sync::Wait;
 use std::thread::Threads;
 
-/// The names of the standard kinds, as a message lists them.
+/// The names of the standard kinds, as messages list them.
 pub const KINDS: &str =
     "add, copy, count, divides, merge, prefix, scale, select, sink, switch, take and weave";
 
-/// The outcome of a choice: the exit status, and if the description was refused its fault, and what is
-/// wrong with it and where.
+/// The exit status, and the fault of a refused description and what is wrong with it and where.
 ///
-/// There is no message if the description was accepted, if the fault says all (`Memory` and `Input`),
-/// or if memory for the message was refused. No contract says what a message is, but that it isn't empty.
+/// There is no message if the description was accepted, if the fault says all (`Memory` and `Input`), or if
+/// out of memory for it. Contracts only say that a message isn't empty.
 #[derive(Drop)]
 pub struct Served {
     pub status: u8,
@@ -35,15 +34,13 @@ pub struct Served {
     pub message: Option<String>,
 }
 
-/// Does what the arguments ask for; the first of them is the program's name. It reads a description
-/// from the source, and writes that it is a network (`check`), or how its run ended (`run`), or that it
-/// is refused.
+/// Does what the arguments ask for; the first is the program's name. Reads a description, and writes that it
+/// is a network (`check`), how its run ended (`run`), or that it is refused.
 ///
-/// The status is 2 if the description is refused (4 if memory was), and 7 if a write fails; otherwise 0
-/// for `check`, and for `run` the one that `execute_standard` returns.
+/// The status is 2 if the description is refused (4 if out of memory), and 7 if a write fails; otherwise 0
+/// for `check`, and for `run` that of `execute_standard`.
 ///
-/// Errors: the arguments ask for neither, with the fault that `read_words` returns. Nothing is then
-/// read or written.
+/// Errors: the arguments ask for neither; the fault is that of `read_words`. Reads and writes nothing.
 pub fn serve<'a, I: Source, O: Sink, R: Wait + Clock + Threads + Sync>(
     rt: &R,
     alloc: Global,
@@ -64,7 +61,6 @@ pub fn serve<'a, I: Source, O: Sink, R: Wait + Clock + Threads + Sync>(
     Ok(serve_choice(rt, alloc, choice, source, sink))
 }
 
-/// Does what was chosen.
 fn serve_choice<I: Source, O: Sink, R: Wait + Clock + Threads + Sync>(
     rt: &R,
     alloc: Global,
@@ -91,7 +87,6 @@ fn serve_choice<I: Source, O: Sink, R: Wait + Clock + Threads + Sync>(
     }
 }
 
-/// Writes that a description was refused, and says what is wrong with it.
 fn serve_refused<O: Sink>(alloc: Global, refused: &Refused, sink: &mut O) -> Served
     ensures memory { result.fault ≡ Some NetFault.Memory → result.message ≡ None }
     ensures input { result.fault ≡ Some NetFault.Input → result.message ≡ None }
@@ -106,7 +101,6 @@ fn serve_refused<O: Sink>(alloc: Global, refused: &Refused, sink: &mut O) -> Ser
     }
 }
 
-/// Writes what was chosen of a network that was loaded.
 fn serve_net<O: Sink, R: Wait + Clock + Threads + Sync>(
     rt: &R,
     alloc: Global,

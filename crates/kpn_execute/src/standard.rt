@@ -1,4 +1,4 @@
-//! Networks of standard kinds, with bodies that are made here.
+//! Networks of standard kinds.
 ghost use Rattle.std.specs.Prelude.{◌≡◌, ◌<◌, ◌≤◌, All, IsSome, IfOk, IfSome, OnErr, Some, length, option_map, slice_get};
 ghost use Rattle.kpn_standard.specs.Standard.{standard};
 ghost use Rattle.kpn_standard.specs.Signatures.{card_of_kind};
@@ -22,10 +22,10 @@ use std::rt::Clock;
 use std::sync::Wait;
 use std::thread::Threads;
 
-/// Runs a network of standard kinds by 1 to 16 workers, and writes the report, as `execute` does. A
-/// body is made for each process, with a closure of its own.
+/// Runs a network of standard kinds with 1 to 16 workers, like `execute`, and makes a body for each process,
+/// with its own closure.
 ///
-/// Returns the exit status of `execute`, or 4 if memory for a body is refused (`refused 14`).
+/// Returns the exit status of `execute`, or 4 if out of memory for a body (`refused 14`).
 pub fn execute_standard<S: Sink, R: Wait + Clock + Threads + Sync>(
     rt: &R,
     alloc: Global,
@@ -46,11 +46,10 @@ pub fn execute_standard<S: Sink, R: Wait + Clock + Threads + Sync>(
     }
 }
 
-/// Makes the bodies of a network with these cards and runs it. Fails if memory for a body was refused; nothing is then
-/// written. Each closure has the code of its kind alone, so no call looks the kind up. They stand in this
-/// function, since one that made a box could not hand it out, and a macro can't hold their clauses. The
-/// network is passed in an `Option`: with a `Net` held by value the check finds no proof
-/// of a loop that makes closures.
+/// Errors: out of memory for a body; nothing is written. Each closure has only the code of its kind, so no
+/// call looks up the kind. They are made here, since no function could return a boxed closure, and no macro
+/// can hold their clauses. The network is in an `Option`, since with a `Net` by value no proof is found of a
+/// loop that makes closures.
 fn make_and_execute<S: Sink, R: Wait + Clock + Threads + Sync>(
     rt: &R,
     alloc: Global,
@@ -211,7 +210,6 @@ fn make_and_execute<S: Sink, R: Wait + Clock + Threads + Sync>(
     Ok(execute(rt, alloc, net, bodies, workers, show, sink))
 }
 
-/// A card of a list of cards that have signatures.
 fn signed_card(cards: &[Card], process: usize) -> Card
     requires signed { All (λ card. IsSome (signature card)) cards.now }
     requires within { process < length cards.now }
@@ -221,7 +219,6 @@ fn signed_card(cards: &[Card], process: usize) -> Card
     cards[process]
 }
 
-/// The kind of a card that has a signature.
 fn kind_of(card: Card) -> Kind
     requires signed { IsSome (signature card) }
     ensures number { (row_of result).number ≡ card.kind }
@@ -232,7 +229,6 @@ fn kind_of(card: Card) -> Kind
     }
 }
 
-/// The body of a card of this kind, with a closure that answers for it.
 fn body_of(card: Card, kind: Kind, call: Call) -> StandardBody
     requires number { (row_of kind).number ≡ card.kind }
     requires signed { IsSome (signature card) }

@@ -1,4 +1,4 @@
--- Which channels may be fed and drained: the faults of a list of inputs and of a list of outputs.
+-- Which channels may be fed and drained.
 use Rattle.std.specs.Prelude.{◌≡◌, ℕ, ◌&&◌, ◌||◌, Bool, true, false, not, nat_lt, List, [], ◌∷◌, Option, Some, None, length, get_or, if◌then◌else◌}
 use Rattle.std.specs.List.{list_any}
 use Rattle.kpn_model.specs.declared.kinds.Card.{Card}
@@ -20,23 +20,22 @@ is_stop Stop = true
 abbrev pub stops_at_once : Family → List Card → ℕ → Bool
 stops_at_once kinds cards p = is_stop (kinds.answer (get_or cards p no_process.card) (kinds.start (get_or cards p no_process.card)) None).act
 
--- the writer of the channel does more than to stop
+-- the writer of the channel does not stop at once
 abbrev pub has_live_writer : Family → Network → List Card → ℕ → Bool
 has_live_writer kinds net cards c = nat_lt c (length net.channels) && not (stops_at_once kinds cards (channel_of net c).writer)
 
--- the reader of the channel does more than to stop
+-- the reader of the channel does not stop at once
 abbrev pub has_live_reader : Family → Network → List Card → ℕ → Bool
 has_live_reader kinds net cards c = nat_lt c (length net.channels) && not (stops_at_once kinds cards (channel_of net c).reader)
 
 abbrev pub is_no_channel : Network → ℕ → Bool
 is_no_channel net c = not (nat_lt c (length net.channels))
 
--- a channel stands in the list twice
 abbrev pub has_twice : List ℕ → Bool
 has_twice [] = false
 has_twice (c ∷ cs) = is_among cs c || has_twice cs
 
--- no channel stands in the lists twice, be it in one or in both
+-- no channel is twice in one list or in both
 pub record AreApart (inputs outputs : List ℕ) : Type 0 where
   pub inputs_once : has_twice inputs ≡ false
   pub outputs_once : has_twice outputs ≡ false
@@ -51,7 +50,7 @@ end_fault kinds net cards inputs outputs =
     else if list_any (has_live_reader kinds net cards) outputs then Some Reader
     else None
 
--- what is wrong with the bodies, which have these cards, or with the inputs and outputs; for `Memory`, nothing is
+-- the fault of bodies with these cards, or of the inputs and outputs; none if `Memory`
 abbrev pub IsFlowFault : Family → Network → List Card → List ℕ → List ℕ → FlowFault → Type 0
 IsFlowFault kinds net cards inputs outputs Bodies = IsOpenFault net.processes cards WrongBodies
 IsFlowFault kinds net cards inputs outputs OtherCard = IsOpenFault net.processes cards WrongCard

@@ -5,14 +5,14 @@ use Rattle.kpn_model.specs.declared.history.Entry.{Entry}
 use Rattle.kpn_model.specs.Network.{Family, Network}
 use Rattle.kpn_model.specs.Semantics.{State, tokens, capacity, with_channel, Transition}
 
--- an entry; or a token that came into a channel from outside, or went out of one
+-- an entry; or a token that came into a channel from outside, or left one
 pub data Event : Type 0 where
   Went : Entry → Event
   Fed : ℕ → Token → Event
   Drained : ℕ → Token → Event
 
 module _ (kinds : Family) (net : Network) where
-  -- a token comes in only where there is room, and goes out in the order in which they came
+  -- a token comes in only if there is room, and leaves in first-in, first-out order
   abbrev pub Happens : State → Event → State → Type 0
   Happens M (Went e) N = Transition kinds net M e N
   Happens M (Fed c t) N = (c < length M.channels) × (length (tokens M c) < capacity M c) × (N ≡ with_channel M c (tokens M c ++ t ∷ []) (capacity M c))
@@ -23,21 +23,20 @@ module _ (kinds : Family) (net : Network) where
   Flows M [] N = N ≡ M
   Flows M (x ∷ xs) N = (mid : State) × Happens M x mid × Flows mid xs N
 
--- the entries among the events
 abbrev pub entries_of : List Event → List Entry
 entries_of [] = []
 entries_of (Went e ∷ xs) = e ∷ entries_of xs
 entries_of (Fed c t ∷ xs) = entries_of xs
 entries_of (Drained c t ∷ xs) = entries_of xs
 
--- the tokens that came into c, in order
+-- the tokens that came into c from outside, in order
 abbrev pub fed : List Event → ℕ → List Token
 fed [] c = []
 fed (Went e ∷ xs) c = fed xs c
 fed (Fed b t ∷ xs) c = if b == c then t ∷ fed xs c else fed xs c
 fed (Drained b t ∷ xs) c = fed xs c
 
--- the tokens that went out of c, in order
+-- the tokens that left c for the outside, in order
 abbrev pub drained : List Event → ℕ → List Token
 drained [] c = []
 drained (Went e ∷ xs) c = drained xs c

@@ -1,4 +1,4 @@
--- What contracts see of a flow, and what holds of each at each time.
+-- What contracts see of a flow, and what holds of each at all times.
 use Rattle.std.specs.Prelude.{◌≡◌, ◌≢◌, ℕ, ◌<◌, ◌+◌, ◌==◌, Bool, true, not, List, Option, Some, None, length, get_or}
 use Rattle.std.specs.List.{list_any, filter, All}
 use Rattle.std.specs.Io.Iter.{u64_saturate}
@@ -18,8 +18,7 @@ use Rattle.kpn_flow.specs.declared.counts.Counts.{Counts}
 use Rattle.kpn_flow.specs.Events.{Event, Flows, entries_of}
 use Rattle.kpn_flow.specs.Preloaded.{StopsAtOnce, IsAtEnds}
 
--- the network, its state, the standing of each process; the channels that are fed, those of them that have not ended, and the channels
--- that are drained; and what was counted since the flow was opened
+-- unended inputs are those that have not ended
 pub record FlowView : Type 0 where
   pub network : Network
   pub state : State
@@ -35,29 +34,25 @@ flow_view net M standings inputs unended outputs counts = record { network = net
 abbrev pub nothing_counted : Counts
 nothing_counted = record { entries = 0; growths = 0 }
 
--- what is counted after these entries; each count stays at 2 ^ 64 - 1 once it is there
+-- the counts after these entries; each stays at 2 ^ 64 - 1 once it is there
 abbrev pub counted : Counts → List Entry → Counts
 counted n E = record { entries = u64_saturate (n.entries + length E); growths = u64_saturate (n.growths + length (growths E)) }
 
--- c is one of the channels
 abbrev pub is_among : List ℕ → ℕ → Bool
 is_among channels c = list_any (λ d. d == c) channels
 
--- the channels without this one
 abbrev pub without : List ℕ → ℕ → List ℕ
 without channels c = filter (λ d. not (d == c)) channels
 
--- the flow after this input has ended
 abbrev pub with_ended : FlowView → ℕ → FlowView
 with_ended s c = record s { unended = without s.unended c }
 
--- the writer of each input and the reader of each output stop at once, so that only the outside writes to the one and reads from the other
+-- only the outside writes to inputs and reads from outputs
 pub record AreEnds (kinds : Family) (net : Network) (inputs outputs : List ℕ) : Type 0 where
   pub only_fed : (c : ℕ) → is_among inputs c ≡ true → (c < length net.channels) × StopsAtOnce kinds net (channel_of net c).writer
   pub only_drained : (c : ℕ) → is_among outputs c ≡ true → (c < length net.channels) × StopsAtOnce kinds net (channel_of net c).reader
 
--- there are events that lead from the start to the state: tokens came into inputs alone, and went out of outputs alone; and the
--- entries among them were counted
+-- events led to the state, tokens came only into inputs and left only outputs, and the entries were counted
 pub record IsReached (kinds : Family) (net : Network) (inputs outputs : List ℕ) (counts : Counts) (M : State) : Type 0 where
   pub events : List Event
   pub flows : Flows kinds net (start kinds net) events M
@@ -69,12 +64,12 @@ pub record IsSettledIn (kinds : Family) (admits : Card → List ℕ → Option T
   pub keeps : StandingsFit kinds admits net None M standings
   pub none_out : (p : ℕ) → standing standings p ≢ Out
 
--- a core in which no process is out, with marks and candidates that are those of its state
+-- a core in which no process is out, with the marks and candidates of its state
 pub record IsSettled {H : Type 0} (kinds : Family) (admits : Card → List ℕ → Option Token → Type 0) (net : Network) (core : Core H) : Type 0 where
   pub fits : IsSettledIn kinds admits net core.store.state core.standings
   pub waiting : AreWaiting net core.store.state core.standings core.waiting
 
--- each process has a body of its card
+-- each process has a body with its card
 pub record HasAllBodies (net : Network) (bodies : List (Option Card)) : Type 0 where
   pub many : length bodies ≡ length net.processes
   pub each : (p : ℕ) → p < length net.processes → get_or bodies p None ≡ Some (card_of net p)
@@ -87,17 +82,15 @@ pub record IsFlowing (kinds : Family) (admits : Card → List ℕ → Option Tok
   pub seated : HasAllBodies s.network bodies
   pub limit_is : limit ≡ 1048576
 
--- the channel is an input that has not ended, and the token has its sort
 pub record MayFeed (s : FlowView) (c : ℕ) (t : Token) : Type 0 where
   pub input : is_among s.unended c ≡ true
   pub sort : IsOfSort (channel_of s.network c).sort t
 
--- the channel is an input that has not ended, and all tokens have its sort
 pub record MayFeedAll (s : FlowView) (c : ℕ) (ts : List Token) : Type 0 where
   pub input : is_among s.unended c ≡ true
   pub sorts : All (IsOfSort (channel_of s.network c).sort) ts
 
--- the flow is of the same network, with the same inputs, of which the same have not ended, and the same outputs
+-- nothing but the state, the standings and the counts differs
 pub record IsSameFlow (s t : FlowView) : Type 0 where
   pub network : t.network ≡ s.network
   pub inputs : t.inputs ≡ s.inputs

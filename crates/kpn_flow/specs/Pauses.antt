@@ -1,4 +1,4 @@
--- How far a flow goes by itself, and why it comes back.
+-- How far a flow runs by itself, and why it returns.
 use Rattle.std.specs.Prelude.{◌≡◌, ℕ, ◌+◌, ◌≤◌, true, false, List, [], ◌∷◌, Some, length}
 use Rattle.std.specs.List.{list_any}
 use Rattle.kpn_model.specs.declared.kinds.Act.TheVariants.{Read}
@@ -38,50 +38,49 @@ module _ (kinds : Family) (net : Network) where
     pub writer : ℕ
     pub blocked : IsBlocked kinds net M writer c
 
-  -- no feeding and no draining lets a process go on that now waits
+  -- neither feeding nor draining lets a waiting process continue
   pub record NoneCanHelp (inputs outputs : List ℕ) (M : State) : Type 0 where
     pub not_starved : (c : ℕ) → IsStarved inputs M c → ⊥
     pub not_held_up : (c : ℕ) → IsHeldUp outputs M c → ⊥
 
   module _ (inputs outputs : List ℕ) where
-    -- a channel grows only where the outside can't help (after Parks 1995)
+    -- a channel grows only if the outside can't help (after Parks 1995)
     abbrev pub OpenTransition : State → Entry → State → Type 0
     OpenTransition M (Did p d) N = Does kinds net M p d N
     OpenTransition M (Grew c to) N = Grows kinds net M c to N × NoneCanHelp inputs outputs M
 
-    -- the entries lead from M to N, one transition each
     abbrev pub OpenRun : State → List Entry → State → Type 0
     OpenRun M [] N = N ≡ M
     OpenRun M (e ∷ es) N = (mid : State) × OpenTransition M e mid × OpenRun mid es N
 
-    -- nothing goes on in M: for want of a token in an input; or else for want of room in an output; or else it has stopped for this
-    -- cause
+    -- nothing can be done in M: for lack of a token in an input; or else of room in an output; or else it has
+    -- ended for this cause
     abbrev pub IsRest : State → Pause → Type 0
     IsRest M Cut = ⊥
     IsRest M Starved = IsQuiet kinds net M × ((c : ℕ) × IsStarved inputs M c)
     IsRest M Blocked = IsQuiet kinds net M × ((c : ℕ) → IsStarved inputs M c → ⊥) × ((c : ℕ) × IsHeldUp outputs M c)
     IsRest M (Over end) = NothingGoesOn kinds net M end × NoneCanHelp inputs outputs M
 
-    -- or fewer than two entries were left of those that were allowed
+    -- or fewer than two of the allowed entries were left
     abbrev pub IsPause : ℕ → ℕ → State → Pause → Type 0
     IsPause most done M Cut = most ≤ done + 1
     IsPause most done M Starved = IsRest M Starved
     IsPause most done M Blocked = IsRest M Blocked
     IsPause most done M (Over end) = IsRest M (Over end)
 
--- what is awaited from outside, as the standings tell: that an input is fed, or else that an output is drained
+-- the standings await a token in an input, or else room in an output
 abbrev pub IsAwaited : Network → List Standing → List ℕ → List ℕ → Pause → Type 0
 IsAwaited net standings inputs outputs Cut = ⊥
 IsAwaited net standings inputs outputs Starved = list_any (starves net standings) inputs ≡ true
 IsAwaited net standings inputs outputs Blocked = (list_any (starves net standings) inputs ≡ false) × (list_any (holds_up net standings) outputs ≡ true)
 IsAwaited net standings inputs outputs (Over end) = ⊥
 
--- the standings tell what each process wants, unless the flow was cut
+-- unless the flow was cut, the standings have what each process wants
 abbrev pub TellWants : Family → Network → State → List Standing → Pause → Type 0
 TellWants kinds net M standings Cut = Unit {0}
 TellWants kinds net M standings pause = (p : ℕ) → wants kinds net M p ≡ parked_answer (standing standings p)
 
--- at most so many entries lead from M to N, they were counted, and the flow came back for this reason
+-- at most `most` entries lead from M to N, they were counted, and the flow returned for this reason
 pub record Advances (kinds : Family) (net : Network) (inputs outputs : List ℕ) (before after : Counts) (M N : State) (most : ℕ) (pause : Pause) : Type 0 where
   pub entries : List Entry
   pub run : OpenRun kinds net inputs outputs M entries N

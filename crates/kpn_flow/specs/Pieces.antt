@@ -10,16 +10,15 @@ use Rattle.kpn_flow.specs.Events.{Event, Flows, entries_of, fed, drained}
 use Rattle.kpn_flow.specs.Preloaded.{IsAtEnds, preloaded, without_growths, all_fed, IsOneRun}
 use Rattle.kpn_flow.specs.Flows.{FlowView, is_among, AreEnds}
 
--- the deeds are a run of the network that held all the tokens from the start. Its stream on each output is what went out of it, then
--- what is there, then what is still to come; and its streams approach the least solution of that network's equations (Kahn 1974):
--- those of every solution begin with them
+-- the deeds are a run of the network that held all the tokens from the start; its stream on each output is
+-- what left it, what is there and what is to come; its streams approach the least solution (Kahn 1974)
 pub record IsOneRunWithStreams (kinds : Family) (net : Network) (outputs : List ℕ) (xs : List Event) (M : State) (later : ℕ → List Token) (sizes : ℕ → ℕ) : Type 0 where
   pub one : IsOneRun kinds net xs M later sizes
   pub outputs_are : (c : ℕ) → is_among outputs c ≡ true → stream (preloaded net (all_fed xs later) sizes) (without_growths (entries_of xs)) c ≡ (drained xs c ++ tokens M c) ++ later c
   pub approach : ApproachLeastSolution kinds (preloaded net (all_fed xs later) sizes) (without_growths (entries_of xs)) one.state
 
--- by whatever events at its ends the flow came to its state, and whatever is still to come into its inputs: what was done is a run of
--- the network that held all those tokens from the start, from capacities with room for all
+-- whatever events led to the flow's state, and whatever is to come, the deeds are a run of the network that
+-- held all those tokens from the start
 abbrev pub IsOneRunInPieces : Family → FlowView → Type 0
 IsOneRunInPieces kinds s =
     (xs : List Event) (later : ℕ → List Token) (sizes : ℕ → ℕ)
@@ -28,31 +27,31 @@ IsOneRunInPieces kinds s =
     → ((c : ℕ) → c < length s.network.channels → length (channel_of s.network c).tokens + length (all_fed xs later c) + length (put_on (entries_of xs) c) ≤ sizes c)
     → IsOneRunWithStreams kinds s.network s.outputs xs s.state later sizes
 
--- a way that a flow has come: events at its ends that lead to M, and what is still to come into its inputs
+-- a way: events lead to M, and this is to come into the inputs
 pub record IsWay (kinds : Family) (net : Network) (inputs outputs : List ℕ) (xs : List Event) (M : State) (later : ℕ → List Token) : Type 0 where
   pub flows : Flows kinds net (start kinds net) xs M
   pub at_ends : IsAtEnds (is_among inputs) (is_among outputs) xs
   pub later_inputs : (c : ℕ) → is_among inputs c ≡ false → later c ≡ []
 
--- two ways of a network into whose inputs the same comes in the end, in whatever pieces and whenever: what came out of an output, and is
--- in it, begins in the one with what it is in the other, or the other way round
+-- if two ways bring the same into the inputs in the end, what left an output and what is in it is
+-- prefix-comparable
 abbrev pub PiecesAreComparable : Family → Type 0
 PiecesAreComparable kinds =
     (net : Network) (inputs outputs : List ℕ) → AreEnds kinds net inputs outputs → (xs ys : List Event) (M N : State) (later last : ℕ → List Token)
     → IsWay kinds net inputs outputs xs M later → IsWay kinds net inputs outputs ys N last → ((c : ℕ) → all_fed xs later c ≡ all_fed ys last c)
     → (c : ℕ) → is_among outputs c ≡ true → is_among inputs c ≡ false → ArePrefixComparable (drained xs c ++ tokens M c) (drained ys c ++ tokens N c)
 
--- no process can go on, and none waits for room: nothing more is done unless more is fed
+-- no process can continue, and none waits for room: nothing more is done unless more is fed
 pub record IsExhausted (kinds : Family) (net : Network) (M : State) : Type 0 where
   pub quiet : IsQuiet kinds net M
   pub none_blocked : (p c : ℕ) → IsBlocked kinds net M p c → ⊥
 
--- where two such ways led, the same came out of each output, and is in it, and each process stands at the same
+-- the same left each output and is in it, and each process has the same status
 pub record HaveGivenTheSame (outputs : List ℕ) (xs ys : List Event) (M N : State) : Type 0 where
   pub outputs_are : (c : ℕ) → is_among outputs c ≡ true → drained xs c ++ tokens M c ≡ drained ys c ++ tokens N c
   pub statuses : (p : ℕ) → status M p ≡ status N p
 
--- two ways of a network into whose inputs the same was fed, in whatever pieces and whenever, and which are exhausted
+-- if two ways are exhausted after the same was fed, they have given the same
 abbrev pub ExhaustedAreTheSame : Family → Type 0
 ExhaustedAreTheSame kinds =
     (net : Network) (inputs outputs : List ℕ) → AreEnds kinds net inputs outputs → (xs ys : List Event) (M N : State)

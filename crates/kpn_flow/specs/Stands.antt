@@ -1,4 +1,4 @@
--- How a flow stands, without going on.
+-- How a flow stands, without running it.
 use Rattle.std.specs.Prelude.{◌≡◌, ◌⊎◌, ℕ, true, false, List}
 use Rattle.std.specs.List.{list_any, list_all}
 use Rattle.kpn_model.specs.Network.{Family, Network}
@@ -11,11 +11,10 @@ use Rattle.kpn_flow.specs.Pauses.{IsRest, NoneCanHelp}
 use Rattle.kpn_flow.specs.Waits.{waits_to_read}
 
 module _ (kinds : Family) (net : Network) (inputs outputs : List ℕ) (M : State) (standings : List Standing) where
-  -- a process is ready; or one waits for room, where no feeding and no draining helps
+  -- a process is ready; or one waits for room, and neither feeding nor draining helps
   abbrev pub MayGoOn : Type 0
   MayGoOn = (list_any is_busy standings ≡ true) ⊎ ((list_all waits_to_read standings ≡ false) × NoneCanHelp kinds net inputs outputs M)
 
-  -- it may go on; or nothing goes on, for this reason
   abbrev pub IsStand : Pause → Type 0
   IsStand Cut = MayGoOn
   IsStand pause = IsRest kinds net inputs outputs M pause

@@ -1,4 +1,4 @@
--- Processes that wait at the ends of a flow, as their standings tell.
+-- Processes that wait at the ends of a flow, according to their standings.
 use Rattle.std.specs.Prelude.{ℕ, ◌==◌, ◌&&◌, Bool, true, false, nat_lt, List, Option, Some, None, length}
 use Rattle.kpn_model.specs.declared.kinds.Act.{Act}
 use Rattle.kpn_model.specs.declared.kinds.Act.TheVariants.{Read, Write, Stop}
@@ -28,7 +28,6 @@ writes_to net c p (Read k) = false
 writes_to net c p (Write k t) = is_at c (out_of net p k)
 writes_to net c p Stop = false
 
--- p is parked with an act of this kind
 abbrev pub is_parked_with : (Act → Bool) → Standing → Bool
 is_parked_with test Ready = false
 is_parked_with test Out = false
@@ -50,7 +49,6 @@ waits_to_read Out = false
 waits_to_read (Parked a) = is_read a.act
 waits_to_read Stopped = true
 
--- 1 for a process that is ready or out, or has stopped
 abbrev pub is_not_parked : Standing → ℕ
 is_not_parked Ready = 1
 is_not_parked Out = 1

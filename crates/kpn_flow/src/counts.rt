@@ -2,8 +2,7 @@
 ghost use Rattle.std.specs.Prelude.{◌≡◌, ◌+◌};
 ghost use Rattle.std.specs.Io.Iter.{u64_saturate};
 
-/// How many entries a flow has made since it was opened, and how many of them were growths. A count that
-/// has come to `u64::MAX` stays there.
+/// The numbers of entries and growths since a flow was opened; each stays at `u64::MAX` once it is there.
 #[derive(Clone, Copy, Debug, PartialEq, Eq)]
 pub struct Counts {
     pub entries: u64,
@@ -11,7 +10,6 @@ pub struct Counts {
 }
 
 impl Counts {
-    /// Counts entries, and the growths among them.
     pub(crate) fn add(&mut self, entries: u64, growths: u64)
         ensures entries { self.new.entries ≡ u64_saturate (self.old.entries + entries) }
         ensures growths { self.new.growths ≡ u64_saturate (self.old.growths + growths) }

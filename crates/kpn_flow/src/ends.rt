@@ -12,10 +12,10 @@ use kpn_machine::opening::misfit;
 use kpn_model::{Act, Kinds};
 use kpn_network::Net;
 
-/// Why a flow was not opened. `Bodies`: there are not as many bodies as processes. `Card`: a body does
-/// not have the card of its process. `Channel`: an input or an output is no channel of the network.
-/// `Twice`: a channel stands in the lists of inputs and outputs twice. `Writer`: the writer of an input
-/// does not stop at once. `Reader`: the reader of an output does not. `Memory`: memory was refused.
+/// Why a flow was not opened: the number of bodies is not that of processes (`Bodies`); a body does not have
+/// its process's card (`Card`); an input or output is no channel (`Channel`), or listed twice (`Twice`); the
+/// writer of an input (`Writer`) or the reader of an output (`Reader`) does not stop at once; out of memory
+/// (`Memory`).
 #[derive(Clone, Copy, Debug, PartialEq, Eq)]
 pub enum FlowFault {
     Bodies,
@@ -27,21 +27,18 @@ pub enum FlowFault {
     Memory,
 }
 
-/// Whether a channel is in a list.
 pub(crate) fn is_among(channels: &[usize], channel: usize) -> bool
     ensures { result ≡ is_among channels.now channel }
 {
     channels.iter().any(|c| *c == channel)
 }
 
-/// Removes a channel from a list.
 pub(crate) fn remove(channels: &mut Vec<usize>, channel: usize)
     ensures { channels.new.items ≡ without channels.old.items channel }
 {
     channels.retain(|c| *c != channel);
 }
 
-/// Whether a channel stands in a list twice.
 fn has_twice(channels: &[usize]) -> bool
     ensures { result ≡ has_twice channels.now }
 {
@@ -55,14 +52,12 @@ fn has_twice(channels: &[usize]) -> bool
     false
 }
 
-/// Whether some channel of a list is in another.
 fn any_among(channels: &[usize], others: &[usize]) -> bool
     ensures { result ≡ list_any (is_among others.now) channels.now }
 {
     channels.iter().any(|c| is_among(others, *c))
 }
 
-/// Whether the network has no channel of this number.
 fn is_no_channel<K: Kinds>(net: &Net<K>, channel: usize) -> bool
     ensures { result ≡ is_no_channel net.now channel }
 {
@@ -75,8 +70,8 @@ fn any_no_channel<K: Kinds>(net: &Net<K>, channels: &[usize]) -> bool
     channels.iter().any(|c| is_no_channel(net, *c))
 }
 
-/// Returns whether a process stops at once, as its body answers at its start. Only the outside writes to a
-/// channel whose writer does so, and only the outside reads from one whose reader does.
+/// Returns whether a process stops at once, according to its body. Then only the outside writes to, or reads
+/// from, its channels.
 ///
 /// ```text
 /// if stops_at_once(bodies, process) {
@@ -95,7 +90,6 @@ pub fn stops_at_once<B: Body>(bodies: &[B], process: usize) -> bool
     matches!(answer.act, Act::Stop)
 }
 
-/// Whether the writer of a channel does more than to stop.
 fn has_live_writer<B: Body>(net: &Net<B::Kinds>, bodies: &[B], channel: usize) -> bool
     requires { length bodies.now ≡ length net.now.processes }
     ensures { result ≡ has_live_writer (family B.Kinds.Kinds) net.now (map B.card bodies.now) channel }
@@ -104,7 +98,6 @@ fn has_live_writer<B: Body>(net: &Net<B::Kinds>, bodies: &[B], channel: usize) -
     channel < net.channels() && !stops_at_once(bodies, net.ends(channel).writer)
 }
 
-/// Whether the reader of a channel does more than to stop.
 fn has_live_reader<B: Body>(net: &Net<B::Kinds>, bodies: &[B], channel: usize) -> bool
     requires { length bodies.now ≡ length net.now.processes }
     ensures { result ≡ has_live_reader (family B.Kinds.Kinds) net.now (map B.card bodies.now) channel }
@@ -135,7 +128,6 @@ fn any_live_reader<B: Body>(net: &Net<B::Kinds>, bodies: &[B], channels: &[usize
     )
 }
 
-/// What is wrong with the inputs and outputs; `None` if nothing is.
 fn end_fault<B: Body>(
     net: &Net<B::Kinds>,
     bodies: &[B],
@@ -160,7 +152,7 @@ fn end_fault<B: Body>(
     None
 }
 
-/// What is wrong with the bodies, or with the inputs and outputs; `None` if nothing is.
+/// Returns the first fault of the bodies, or of the inputs and outputs.
 pub(crate) fn fault_of<B: Body>(
     net: &Net<B::Kinds>,
     bodies: &[B],

@@ -31,12 +31,12 @@ use kpn_state::{Standing, Unkept};
 use std::alloc::Global;
 use std::marker::Model;
 
-/// A network at work in one thread that may go on for ever, in bounded memory: it is fed at its inputs
-/// and drained at its outputs, and of what it did only its state is kept.
+/// A network that one thread runs, perhaps forever, in bounded memory. It is fed at its inputs and drained at
+/// its outputs, and keeps no history.
 ///
-/// An input is a channel whose writer stops at once, as `count 0 0` does, so that only the outside
-/// writes to it; an output is one whose reader does, as `sink 0`. So feeding in pieces is having had
-/// all tokens from the start, as `assure_one_run` says (docs/endless.md).
+/// The writer of an input stops at once, like `count 0 0`, so only the outside writes to it; so does the
+/// reader of an output, like `sink 0`. So feeding in pieces equals having all tokens from the start
+/// (`assure_one_run`; docs/endless.md).
 pub struct Flow<B: Body> {
     net: Net<B::Kinds>,
     core: Core<Unkept>,
@@ -47,8 +47,8 @@ pub struct Flow<B: Body> {
     counts: Counts,
 }
 
-// Written out, so that letting go of a flow is a call, which is proved once, and not done field by field wherever
-// one ends: that would be most of what it takes to prove who owns one.
+// Written out so that dropping a flow is one call, proved once. Otherwise it is most of the proof of a flow's
+// owner.
 impl<B: Body> Drop for Flow<B> {
     fn drop(self) {
         let Flow {
@@ -76,7 +76,7 @@ impl<B: Body> Model for Flow<B> {
     ghost invariant = { λ m. IsFlowing (family B.Kinds.Kinds) B.Kinds.admits (flow_view m.net m.core.store.state m.core.standings m.inputs.items m.unended.items m.outputs.items m.counts) (map (option_map B.card) m.bodies.items) m.core.store.limit × AreWaiting m.net m.core.store.state m.core.standings m.core.waiting };
 }
 
-/// Why a flow was not opened, with the network and the bodies handed back.
+/// Why a flow was not opened, with the network and the bodies.
 #[derive(Drop)]
 pub struct FlowRefused<B: Body> {
     pub net: Net<B::Kinds>,
@@ -85,12 +85,11 @@ pub struct FlowRefused<B: Body> {
 }
 
 impl<B: Body> Flow<B> {
-    /// Opens a flow at the start of a network, with a body for each process, in order, and the numbers
-    /// of the channels that will be fed and of those that will be drained. All memory except that of
-    /// growths is taken here.
+    /// Opens a flow at the start of a network, with a body for each process, in order, and the numbers of the
+    /// channels to feed and to drain. Takes all memory except that of growths.
     ///
     /// Errors: the first of `Bodies`, `Card`, `Channel`, `Twice`, `Writer`, `Reader` and `Memory` that
-    /// applies, with the network and the bodies unchanged.
+    /// applies. Returns the network and the bodies unchanged.
     ///
     /// ```text
     /// match Flow::open(alloc, net, bodies, fed.as_slice(), drained.as_slice()) {
@@ -171,8 +170,7 @@ impl<B: Body> Flow<B> {
         self.core.standings.as_slice()
     }
 
-    /// Returns how many entries the flow has made since it was opened; `u64::MAX` if they are as many or
-    /// more.
+    /// Returns the number of entries since the flow was opened, at most `u64::MAX`.
     ///
     /// ```text
     /// let (text, entries, growths) = (pause_text(pause), flow.entries(), flow.growths());
@@ -183,7 +181,7 @@ impl<B: Body> Flow<B> {
         self.counts.entries
     }
 
-    /// Returns how many of the entries were growths; `u64::MAX` if they are as many or more.
+    /// Returns how many of the entries were growths, at most `u64::MAX`.
     ///
     /// ```text
     /// let (text, entries, growths) = (pause_text(pause), flow.entries(), flow.growths());
@@ -215,8 +213,8 @@ impl<B: Body> Flow<B> {
         is_among(self.outputs.as_slice(), channel)
     }
 
-    /// Returns whether the reader of a channel is parked with a read from it: it wants to read from it, and
-    /// the channel is empty. After `Pause::Starved` this tells which input to feed.
+    /// Returns whether the reader of a channel is parked with a read from it. After `Pause::Starved` this
+    /// finds the input to feed.
     pub fn is_starved(&self, channel: usize) -> bool
         ensures parked { result ≡ starves self.now.network self.now.standings channel }
         ensures starving { IsTrue result → IsStarving (family B.Kinds.Kinds) self.now.network self.now.state (channel_of self.now.network channel).reader channel }
@@ -224,8 +222,8 @@ impl<B: Body> Flow<B> {
         starves(&self.net, self.core.standings.as_slice(), channel)
     }
 
-    /// Returns whether the writer of a channel is parked with a write to it: it wants to write to it, and
-    /// the channel is full. After `Pause::Blocked` this tells which output to drain.
+    /// Returns whether the writer of a channel is parked with a write to it. After `Pause::Blocked` this
+    /// finds the output to drain.
     pub fn is_held_up(&self, channel: usize) -> bool
         ensures parked { result ≡ holds_up self.now.network self.now.standings channel }
         ensures blocked { IsTrue result → IsBlocked (family B.Kinds.Kinds) self.now.network self.now.state (channel_of self.now.network channel).writer channel }
@@ -233,7 +231,7 @@ impl<B: Body> Flow<B> {
         holds_up(&self.net, self.core.standings.as_slice(), channel)
     }
 
-    /// Returns whether a channel holds fewer tokens than its capacity; `false` if there is no such channel.
+    /// Returns whether a channel exists and holds fewer tokens than its capacity.
     ///
     /// ```text
     /// if !flow.has_room(inlet.channel()) {
@@ -247,7 +245,7 @@ impl<B: Body> Flow<B> {
         held < capacity
     }
 
-    /// Returns how many tokens a channel holds, and its capacity now; 0 and 0 if there is no such channel.
+    /// Returns a channel's number of tokens and its current capacity; 0 and 0 if there is no such channel.
     ///
     /// ```text
     /// let channel = self.inputs.get(place).copied()?;
@@ -263,9 +261,9 @@ impl<B: Body> Flow<B> {
         self.core.store.tokens_and_capacity(channel)
     }
 
-    /// Returns whether each process has stopped or waits for a token. Then nothing more is done, and
-    /// nothing more comes out, unless more is fed. Of two flows of one network into which the same was fed,
-    /// and of which this is `true`, the same came out of each output, and is in it (`comparable`).
+    /// Returns whether each process has stopped or waits for a token, so that nothing more comes out unless
+    /// more is fed. If two such flows of one network were fed the same, each output has given and holds the
+    /// same (`comparable`).
     pub fn is_exhausted(&self) -> bool
         ensures waits { result ≡ list_all waits_to_read self.now.standings }
         ensures exhausted { IsTrue result → IsExhausted (family B.Kinds.Kinds) self.now.network self.now.state }
@@ -273,9 +271,8 @@ impl<B: Body> Flow<B> {
         all_wait_to_read(self.core.standings.as_slice())
     }
 
-    /// Returns how the flow stands, without going on: `Cut` if a process is ready, or waits for room in a channel
-    /// where neither feeding nor draining helps, so that `advance` finds what comes of it; and else why nothing
-    /// goes on, as `advance` would come back.
+    /// Returns how the flow stands, without running it: `Cut` if a process is ready, or waits for room where
+    /// neither feeding nor draining helps; otherwise what `advance` would return.
     ///
     /// ```text
     /// self.flow.stand()
@@ -287,13 +284,11 @@ impl<B: Body> Flow<B> {
         stand(&self.net, &self.core, inputs, self.outputs.as_slice())
     }
 
-    /// Ghost lemma: what holds of each flow at each time. It was led to its state by events, of which
-    /// tokens came only into inputs and went only out of outputs. By whatever such events that was,
-    /// and whatever will still come into the inputs, what was done is a run of the network that held
-    /// all those tokens from the start; growths are left out of it. What that run wrote to an output
-    /// is what was drained, and then what is there; and every solution of that network's equations
-    /// begins with it (Kahn 1974). The entries among such events were counted; and what has not ended
-    /// is an input.
+    /// Ghost lemma: what holds of each flow at all times. In the events that led to its state tokens came
+    /// only into inputs and left only outputs, and the entries were counted. Whatever these events were, and
+    /// whatever is to come, the deeds are a run of the network that held all those tokens from the start. Its
+    /// stream on an output is what was drained and then what is there, and every solution of that network's
+    /// equations begins with it (Kahn 1974).
     pub fn assure_one_run(&self)
         ensures ends { AreEnds (family B.Kinds.Kinds) self.now.network self.now.inputs self.now.outputs }
         ensures unended { (c : ℕ) → is_among self.now.unended c ≡ true → is_among self.now.inputs c ≡ true }
@@ -305,10 +300,10 @@ impl<B: Body> Flow<B> {
 }
 
 impl<B: Body> Flow<B> {
-    /// Goes on by at most `most` entries, until fewer than two of them are left or nothing goes on. It
-    /// takes no memory except that of growths, and keeps no entry, but counts them. A channel grows only
-    /// where neither feeding an input that has not ended nor draining lets a process go on (after Parks
-    /// 1995). Unless it is `Cut`, `standings` then tells what each process waits for.
+    /// Runs the flow until fewer than two of the `most` allowed entries are left or nothing can be done.
+    /// Takes no memory except that of growths, and keeps no entries. A channel grows only if neither feeding
+    /// an unended input nor draining lets a process continue (after Parks 1995). Unless `Cut`, `standings`
+    /// has what each process waits for.
     ///
     /// ```text
     /// let pause = self.flow.advance(most);
@@ -330,9 +325,8 @@ impl<B: Body> Flow<B> {
         )
     }
 
-    /// Says that an input has ended: it will not be fed any more, and is an input no more. A process that
-    /// waits for a token in it, once it is empty, waits for ever, so that `advance` does not come back
-    /// `Starved` for it. Nothing changes if the channel is no input or has ended before.
+    /// Ends an input: it can no longer be fed. A process that waits for a token in it then waits forever, and
+    /// `advance` does not return `Starved` for it. Changes nothing if the channel is no input or has ended.
     ///
     /// ```text
     /// for port in self.inputs.iter() {
@@ -346,7 +340,6 @@ impl<B: Body> Flow<B> {
     }
 }
 
-/// Whether a token has this sort.
 fn has_sort(token: Token, sort: Sort) -> bool
     ensures { IsTrue result ↔ IsOfSort sort token }
 {
@@ -358,7 +351,7 @@ fn has_sort(token: Token, sort: Sort) -> bool
 }
 
 impl<B: Body> Flow<B> {
-    /// Returns whether a channel is an input that has not ended and a token has its sort.
+    /// Returns whether a channel is an unended input and a token has its sort.
     ///
     /// ```text
     /// if !flow.may_feed(channel, token) {
@@ -374,8 +367,7 @@ impl<B: Body> Flow<B> {
             && has_sort(token, self.net.sort(channel))
     }
 
-    /// Puts a token into an input, if it holds fewer than its capacity, and returns whether it did. The
-    /// token must have the sort of the input.
+    /// Puts a token into an input, and returns whether there was room. `may_feed` must be true.
     ///
     /// ```text
     /// if !flow.may_feed(channel, token) {
@@ -398,7 +390,7 @@ impl<B: Body> Flow<B> {
         true
     }
 
-    /// Takes the first token of an output; `None` if the output is empty.
+    /// Takes the first token of an output; `None` if it is empty.
     ///
     /// ```text
     /// if !flow.is_output(channel) {
@@ -423,7 +415,7 @@ impl<B: Body> Flow<B> {
 }
 
 impl<B: Body> Flow<B> {
-    /// Returns whether a channel is an input that has not ended and all tokens have its sort.
+    /// Returns whether a channel is an unended input and all tokens have its sort.
     ///
     /// ```text
     /// if !self.flow.may_feed_all(channel, batch.as_slice()) {
@@ -445,8 +437,8 @@ impl<B: Body> Flow<B> {
         self.is_input(channel)
     }
 
-    /// Puts tokens into an input, in order, as many as it has room for, and returns how many. All must
-    /// have the sort of the input.
+    /// Puts as many tokens as there is room for into an input, in order, and returns how many. `may_feed_all`
+    /// must be true.
     ///
     /// ```text
     /// if !self.flow.may_feed_all(channel, batch.as_slice()) {
@@ -472,8 +464,8 @@ impl<B: Body> Flow<B> {
         fed
     }
 
-    /// Moves the first tokens of an output to the front of a buffer, in order, as many as there are and as
-    /// the buffer is long, and returns how many.
+    /// Moves as many tokens as there are and fit from an output to the front of a buffer, in order. Returns
+    /// how many.
     ///
     /// ```text
     /// let mut buffer = [Token::Word(0); BATCH];

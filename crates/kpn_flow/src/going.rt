@@ -12,10 +12,10 @@ use kpn_commit::Core;
 use kpn_network::Net;
 use kpn_state::Unkept;
 
-/// How many entries a flow has room for; after a stretch of fewer it forgets them.
+/// How many entries a flow has room for; each stretch forgets those of the one before.
 pub(crate) const ROOM: usize = 1 << 20;
 
-/// At how many entries a stretch ends, if this many are left: an answer may add two.
+/// Returns at how many entries a stretch ends: one before the last, since an answer may add two.
 fn entries_of_stretch(left: u64) -> usize
     requires { 2 ≤ left }
     ensures some { 1 ≤ result }
@@ -29,8 +29,6 @@ fn entries_of_stretch(left: u64) -> usize
     }
 }
 
-/// Goes on, stretch after stretch, while two more entries are allowed and something goes on, and counts the
-/// entries.
 pub(crate) fn go_on<B: Body>(
     net: &Net<B::Kinds>,
     core: &mut Core<Unkept>,

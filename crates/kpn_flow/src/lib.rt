@@ -1,5 +1,5 @@
-//! A network that goes on as long as it can, in bounded memory: tokens are fed into its inputs and
-//! drained from its outputs between stretches of its run, and no history is kept.
+//! A network that runs as long as it can, in bounded memory: between stretches tokens are fed into its inputs
+//! and drained from its outputs, and no history is kept.
 //!
 //! ```text
 //! let pause = self.flow.advance(STRETCH);

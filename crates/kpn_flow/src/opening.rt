@@ -11,7 +11,6 @@ pub(crate) struct Lists {
     pub(crate) outputs: Vec<usize>,
 }
 
-/// The lists of a flow of which no input has ended.
 pub(crate) fn lists_of(
     alloc: Global,
     inputs: &[usize],

@@ -1,13 +1,13 @@
-//! Why a flow came back to its caller.
+//! Why a flow returned to its caller.
 use kpn_model::End;
 
-/// Why `advance` came back.
+/// Why `advance` returned.
 ///
-/// `Cut`: fewer than two entries were left of those that it was allowed, and there may be more to do.
-/// `Starved`: no process can go on, and one waits for a token in an input, which is empty. `Blocked`:
-/// no process can go on, none waits so, and one waits for room in an output, which is full. `Over`: no
-/// process can go on, none waits so or so, and no growth can help; for this cause, as a run ends. It is
-/// `Memory` if a growth was refused memory: `advance` asks for it again.
+/// - `Cut`: fewer than two of the allowed entries were left.
+/// - `Starved`: no process can continue, and one waits for a token in an input.
+/// - `Blocked`: otherwise, if no process can continue, and one waits for room in an output.
+/// - `Over`: otherwise, if no growth can help; with the cause, as of a run. It is `Memory` if a growth ran
+///   out of memory; the next `advance` tries again.
 #[derive(Clone, Copy, Debug, PartialEq, Eq)]
 pub enum Pause {
     Cut,

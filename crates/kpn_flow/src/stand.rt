@@ -1,4 +1,4 @@
-//! How a flow stands, without going on.
+//! How a flow stands, without running it.
 ghost use Rattle.kpn_model.specs.Families.{family};
 ghost use Rattle.kpn_flow.specs.Flows.{IsSettledIn};
 ghost use Rattle.kpn_flow.specs.Stands.{IsStand};
@@ -11,7 +11,7 @@ use kpn_model::{End, Kinds};
 use kpn_network::Net;
 use kpn_state::Unkept;
 
-/// Why nothing goes on; `Cut` if something may.
+/// Returns why nothing can be done; `Cut` if something may.
 pub(crate) fn stand<K: Kinds>(
     net: &Net<K>,
     core: &Core<Unkept>,

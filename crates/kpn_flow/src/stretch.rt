@@ -1,4 +1,4 @@
-//! One stretch of a flow: ready processes are asked, or what follows when none is ready.
+//! One stretch of a flow.
 ghost use Rattle.std.specs.Prelude.{◌≡◌, ℕ, ◌+◌, ◌*◌, ◌≤◌, [], length, map, option_map, sum_by, false, IfSome, IfNone};
 ghost use Rattle.std.specs.List.{list_any};
 ghost use Rattle.kpn_model.specs.Families.{family};
@@ -18,8 +18,7 @@ use kpn_model::Kinds;
 use kpn_network::Net;
 use kpn_state::{Standing, Unkept};
 
-/// What is awaited from outside, as the standings tell: that an input is fed, or else that an output is
-/// drained; `None` if neither lets a process go on.
+/// Returns what the standings await from outside: a token in an input, or else room in an output.
 pub(crate) fn awaited<K: Kinds>(
     net: &Net<K>,
     standings: &[Standing],
@@ -39,8 +38,8 @@ pub(crate) fn awaited<K: Kinds>(
     None
 }
 
-/// What follows when no process is ready: it is found why nothing goes on, or the chosen channel grows,
-/// which it does only if neither feeding nor draining lets a process go on (after Parks 1995).
+/// Finds why nothing can be done, or grows the chosen channel if neither feeding nor draining lets a process
+/// continue (after Parks 1995).
 #[cold]
 #[inline(never)]
 fn rest<K: Kinds>(
@@ -72,9 +71,9 @@ fn rest<K: Kinds>(
     }
 }
 
-/// Asks ready processes, one after the other, until there are `until` entries or none is ready; if none is ready at
-/// first, lets the chosen channel grow, or finds why nothing goes on, and returns that. The history has afterwards the
-/// entries of this stretch alone. `again` is a process to be asked first, and then the one that would be asked next.
+/// Asks ready processes until there are `until` entries or none is ready. If none is ready at first, grows
+/// the chosen channel, or returns why nothing can be done. The history then has only this stretch's entries.
+/// `again` is the process to ask first, and then the one to ask next.
 pub(crate) fn stretch<B: Body>(
     net: &Net<B::Kinds>,
     core: &mut Core<Unkept>,

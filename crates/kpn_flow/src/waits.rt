@@ -8,7 +8,6 @@ use kpn_network::Net;
 use kpn_state::Standing;
 use kpn_state::standing::parked;
 
-/// Whether an act of a process is a read from this channel.
 fn reads_from<K: Kinds>(net: &Net<K>, channel: usize, process: usize, act: Act) -> bool
     ensures { result ≡ reads_from net.now channel process act }
 {
@@ -21,7 +20,6 @@ fn reads_from<K: Kinds>(net: &Net<K>, channel: usize, process: usize, act: Act) 
     }
 }
 
-/// Whether an act of a process is a write to this channel.
 fn writes_to<K: Kinds>(net: &Net<K>, channel: usize, process: usize, act: Act) -> bool
     ensures { result ≡ writes_to net.now channel process act }
 {
@@ -62,7 +60,6 @@ pub(crate) fn holds_up<K: Kinds>(net: &Net<K>, standings: &[Standing], channel: 
     }
 }
 
-/// Whether the reader of one of the channels is parked with a read from it.
 pub(crate) fn any_starves<K: Kinds>(
     net: &Net<K>,
     standings: &[Standing],
@@ -73,7 +70,6 @@ pub(crate) fn any_starves<K: Kinds>(
     channels.iter().any(|c| starves(net, standings, *c))
 }
 
-/// Whether the writer of one of the channels is parked with a write to it.
 pub(crate) fn any_holds_up<K: Kinds>(
     net: &Net<K>,
     standings: &[Standing],
@@ -95,7 +91,6 @@ fn waits_to_read(standing: &Standing) -> bool
     }
 }
 
-/// Whether each process has stopped or waits for a token.
 pub(crate) fn all_wait_to_read(standings: &[Standing]) -> bool
     ensures { result ≡ list_all waits_to_read standings.now }
 {

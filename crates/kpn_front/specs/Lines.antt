@@ -1,4 +1,4 @@
--- The lines that a program writes about a description or a run, and the exit status of a refused description.
+-- The lines about a description or a run.
 use Rattle.std.specs.Prelude.{ℕ, codes, decimal, List, ◌++◌, length}
 use Rattle.kpn_sketch.specs.declared.fault.NetFault.{NetFault}
 use Rattle.kpn_sketch.specs.declared.fault.NetFault.TheVariants.{Memory}
@@ -7,11 +7,11 @@ use Rattle.kpn_model.specs.Network.{Network}
 use Rattle.kpn_front.specs.declared.status.Status.{Status}
 use Rattle.kpn_front.specs.declared.status.Status.TheVariants.{Refused, MemoryRefused}
 
--- what is written about a network that is accepted
+-- written about a network that is accepted
 abbrev pub checked_line : Network → List ℕ
 checked_line net = codes "ok " ++ (decimal (length net.processes) ++ (codes " processes " ++ (decimal (length net.channels) ++ codes " channels\n")))
 
--- what is written about a description that is refused
+-- written about a description that is refused
 abbrev pub refused_line : NetFault → List ℕ
 refused_line fault = codes "refused " ++ (decimal (number_of_fault fault) ++ codes "\n")
 
@@ -19,10 +19,10 @@ abbrev pub status_of_fault : NetFault → Status
 status_of_fault Memory = MemoryRefused
 status_of_fault _ = Refused
 
--- what is written if a worker's answer was refused
+-- written if a worker's answer was refused
 abbrev pub lost_line : List ℕ
 lost_line = codes "lost\n"
 
--- what is written if no channel has the name given by `--show`
+-- written if no channel has the name given by `--show`
 abbrev pub no_channel_line : List ℕ → List ℕ
 no_channel_line name = codes "no channel " ++ name ++ codes "\n"

@@ -1,4 +1,4 @@
--- What is loaded from a source of bytes.
+-- Loading from a source of bytes.
 use Rattle.std.specs.Prelude.{◌≡◌, ◌⊎◌, ◌≤◌, ◌<◌, ℕ, Bool, true, false, List, [], length, Option, Some, None, Result, Ok, Err, MatchResult}
 use Rattle.std.specs.Io.KnownBytes.{Consumes}
 use Rattle.kpn_sketch.specs.declared.fault.NetFault.{NetFault}
@@ -17,31 +17,29 @@ use Rattle.kpn_net.specs.Sketched.{net_of}
 abbrev pub longest : ℕ
 longest = LONGEST_TEXT
 
--- if the bytes that the source had left are known, at most n of them have been consumed
+-- at most n of the bytes that the source had left, if known, have been consumed
 abbrev pub ConsumesAtMost : ℕ → Option (List ℕ) → Option (List ℕ) → Type 0
 ConsumesAtMost n old new = (bytes : List ℕ) × Consumes old new bytes × (length bytes ≤ n)
 
--- the fault of a refused description, without its text
 abbrev pub without_text : Result Network Refused → Result Network NetFault
 without_text (Ok net) = Ok net
 without_text (Err refused) = Err refused.fault
 
--- the text that is handed back is all that there was, or nothing if it was not read to its end
+-- the returned text is all there was, or empty if it was not read to its end
 abbrev pub IsTextOf : List ℕ → Refused → Type 0
 IsTextOf text refused = (refused.text.items ≡ text) ⊎ ((refused.text.items ≡ []) × ((refused.fault ≡ Input) ⊎ (refused.fault ≡ Memory)))
 
--- no read failed, and the text is no longer than a description may be
+-- no read failed, and the text is within the limit
 abbrev pub IsWhole : Bool → List ℕ → Type 0
 IsWhole failed text = (failed ≡ false) × (length text ≤ longest)
 
--- `change` is what is made of a sketch before it is checked
+-- `change` changes a sketch before it is checked
 module _ (change : Sketch → Sketch) (named : List ℕ → Option (ℕ × ℕ)) (signature : Card → Option Signature) (failed : Bool) (text : List ℕ) where
   -- the text describes a sketch without a fault, and the network is that sketch's
   abbrev pub IsNetOf : Network → Type 0
   IsNetOf net = IsWhole failed text × ((sketch : Sketch) × Describes text sketch × (first_fault named signature (change sketch) ≡ None) × (net ≡ net_of named (change sketch)))
 
-  -- nothing is made if a read failed or the text is too long; any other text has a fault of reading, or the sketch that it
-  -- describes has a fault
+  -- a read failed, the text is too long or can't be read, or the described sketch has a fault
   abbrev pub IsLoadFault : NetFault → Type 0
   IsLoadFault Memory = failed ≡ false
   IsLoadFault Input = (failed ≡ true) ⊎ (longest < length text)
@@ -49,10 +47,10 @@ module _ (change : Sketch → Sketch) (named : List ℕ → Option (ℕ × ℕ))
   IsLoadFault Keys = IsWhole failed text × IsReadFault text Keys
   IsLoadFault e = IsWhole failed text × ((sketch : Sketch) × Describes text sketch × (first_fault named signature (change sketch) ≡ Some e))
 
-  -- what is loaded of a source with this text, given whether a read failed
+  -- what is loaded from this text, given whether a read failed
   abbrev pub LoadsChanged : Result Network NetFault → Type 0
   LoadsChanged result = MatchResult result IsNetOf IsLoadFault
 
--- the same, of the sketch as the text describes it
+-- without a change of the sketch
 abbrev pub Loads : (List ℕ → Option (ℕ × ℕ)) → (Card → Option Signature) → Bool → List ℕ → Result Network NetFault → Type 0
 Loads = LoadsChanged (λ sketch. sketch)

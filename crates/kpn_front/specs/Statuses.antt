@@ -1,4 +1,4 @@
--- The numbers with which programs exit.
+-- The numbers of exit statuses.
 use Rattle.std.specs.Prelude.{ℕ}
 use Rattle.kpn_front.specs.declared.status.Status.{Status}
 use Rattle.kpn_front.specs.declared.status.Status.TheVariants.{Success, WrongArguments, Refused, BudgetSpent, MemoryRefused, Deadlocked, AtCeiling, WriteFailed, Lost}

@@ -5,13 +5,13 @@ use Rattle.kpn_front.specs.declared.status.Status.{Status}
 use Rattle.kpn_front.specs.declared.status.Status.TheVariants.{WriteFailed}
 use Rattle.kpn_front.specs.Statuses.{code_of}
 
--- a sink as contracts see it: what has been written, if that is known, and whether it takes so many further bytes without a failure
+-- a sink: what has been written, if known, and whether it takes a number of further bytes without failure
 pub record SinkView : Type 0 where
   pub contents : Option (List ℕ)
   pub takes : ℕ → Bool
 
--- the text is written, and the number is that of the status; or the write fails, which it does not if the sink takes that many bytes,
--- and the number is that of `WriteFailed`
+-- the text is written, with the status's number; or the write fails, but not if the sink takes that many
+-- bytes
 pub record Says (status : Status) (text : List ℕ) (before after : SinkView) (number : ℕ) : Type 0 where
   pub said : number ≢ code_of WriteFailed → (number ≡ code_of status) × Appends before.contents after.contents text
   pub written_if_it_fits : before.takes (length text) ≡ true → number ≢ code_of WriteFailed

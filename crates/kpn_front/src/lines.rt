@@ -1,4 +1,4 @@
-//! The lines that a program writes about a description or a run, and the exit status of each.
+//! The lines about a description or a run, and their exit statuses.
 ghost use Rattle.std.specs.Prelude.{◌≡◌, ◌≢◌, ◌≤◌, ◌+◌, ◌++◌, true, OnOk, IsOk, decimal, length};
 ghost use Rattle.arrayvec.specs.ArrayString.{array_string_len};
 ghost use Rattle.std.specs.Io.KnownBytes.{Appends};
@@ -17,8 +17,8 @@ const LINE_BYTES: usize = 64;
 
 /// Writes a text, and returns the number of `status`, or 7 if the write fails.
 ///
-/// The write does not fail if the sink takes that many bytes. If it fails, some of them may have been
-/// written. `status` must not be `WriteFailed`.
+/// The write succeeds if the sink takes that many bytes. If it fails, some may have been written. `status`
+/// must not be `WriteFailed`.
 pub fn say<S: Sink>(sink: &mut S, text: &str, status: Status) -> u8
     requires { status ≢ Status.WriteFailed }
     ensures { Says status text.now (S.seen sink.old) (S.seen sink.new) result }
@@ -29,37 +29,31 @@ pub fn say<S: Sink>(sink: &mut S, text: &str, status: Status) -> u8
     }
 }
 
-/// Writes that a network was accepted, as `ok 2 processes 1 channels` for a counter and a sink.
-///
-/// Returns the exit status: 0, or 7 if the write fails. Takes no memory.
+/// Writes that a network was accepted, like `ok 2 processes 1 channels`. Returns 0, or 7 if the write fails.
+/// Takes no memory.
 pub fn say_checked<K: Kinds, S: Sink>(net: &Net<K>, sink: &mut S) -> u8
     ensures { Says Status.Success (checked_line net.now) (S.seen sink.old) (S.seen sink.new) result }
 {
     say(sink, checked_text(net).as_str(), Status::Success)
 }
 
-/// Writes that a description was refused, as `refused 9` if two channels share a port.
-///
-/// Returns the exit status: 4 if memory was refused, 2 for every other fault, and 7 if the write fails.
-/// Takes no memory.
+/// Writes that a description was refused, like `refused 9`. Returns 4 if out of memory, 2 for any other
+/// fault, or 7 if the write fails. Takes no memory.
 pub fn say_refused<S: Sink>(fault: &NetFault, sink: &mut S) -> u8
     ensures { Says (status_of_fault fault.now) (refused_line fault.now) (S.seen sink.old) (S.seen sink.new) result }
 {
     say(sink, refused_text(fault).as_str(), status_of(fault))
 }
 
-/// Writes the line `lost`: a run was given up, since the machine refused a worker's answer.
-///
-/// Returns the exit status: 8, or 7 if the write fails. Takes no memory.
+/// Writes `lost`: the machine refused a worker's answer. Returns 8, or 7 if the write fails. Takes no memory.
 pub fn say_lost<S: Sink>(sink: &mut S) -> u8
     ensures { Says Status.Lost lost_line (S.seen sink.old) (S.seen sink.new) result }
 {
     say(sink, "lost\n", Status::Lost)
 }
 
-/// Writes that no channel has this name, as `no channel c9`.
-///
-/// Returns the exit status: 1, or 7 if the write fails. Takes no memory.
+/// Writes that no channel has this name, like `no channel c9`. Returns 1, or 7 if the write fails. Takes no
+/// memory.
 pub fn say_no_channel<S: Sink>(name: &str, sink: &mut S) -> u8
     ensures { Says Status.WrongArguments (no_channel_line name.now) (S.seen sink.old) (S.seen sink.new) result }
 {
@@ -69,7 +63,7 @@ pub fn say_no_channel<S: Sink>(name: &str, sink: &mut S) -> u8
     }
 }
 
-/// Writes the line in three parts, since a name may be of any length.
+/// In three parts, since a name may have any length.
 fn write_no_channel<S: Sink>(name: &str, sink: &mut S) -> io::Result<()>
     ensures bytes { OnOk result (Appends (S.seen sink.old).contents (S.seen sink.new).contents (no_channel_line name.now)) }
     ensures room { (S.seen sink.old).takes (length (no_channel_line name.now)) ≡ true → IsOk result }
@@ -111,7 +105,6 @@ fn refused_text(fault: &NetFault) -> ArrayString<LINE_BYTES>
     line
 }
 
-/// Appends a number in decimal.
 fn push_number(line: &mut ArrayString<LINE_BYTES>, n: usize)
     requires { array_string_len line.old + 20 ≤ 64 }
     ensures bytes { line.new.bytes ≡ line.old.bytes ++ decimal n }

@@ -1,4 +1,4 @@
-//! Reading a network from a source.
+//! Reads a network from a source.
 ghost use Rattle.std.specs.Prelude.{◌≡◌, ◌≢◌, false, ◌≤◌, ◌<◌, ◌+◌, ◌⊎◌, true, IsTrue, IfOk, IfErr, IfSome, length};
 ghost use Rattle.kpn_front.specs.Loading.{Loads, ConsumesAtMost, longest, without_text, IsTextOf};
 
@@ -7,11 +7,10 @@ use kpn_model::limits::LONGEST_TEXT;
 use kpn_net::{Check, Kinds, Net, NetFault, read_sketch};
 use std::alloc::Global;
 
-/// How many bytes one turn reads at most.
+/// The most bytes to read in one call.
 const CHUNK: usize = 4096;
 
-/// A description of which no network was made: the fault, and the text that has it. If the fault is
-/// `Input` or `Memory` the text may be empty: it was then not read to its end.
+/// The fault of a description, and its text. With `Input` or `Memory` the text may be empty.
 #[derive(Drop)]
 pub struct Refused {
     pub fault: NetFault,
@@ -20,9 +19,8 @@ pub struct Refused {
 
 /// Reads a description to its end, and makes its network. Reads at most 1,048,577 bytes.
 ///
-/// Errors: `Input` if the source has more than 1,048,576 bytes or a read fails, whatever the bytes say.
-/// Otherwise the fault that `read_sketch` finds in the bytes, or that `Net::check` finds in what they
-/// describe; or `Memory` if memory was refused. What was read has then been consumed from the source.
+/// Errors: `Input` if the source has more than 1,048,576 bytes or a read fails, whatever the bytes; the fault
+/// that `read_sketch` or `Net::check` finds; or `Memory` if out of memory. The bytes read are consumed.
 pub fn load<K: Kinds, S: Source>(alloc: Global, source: &mut S) -> Result<Net<K>, NetFault>
     ensures loads { S.has_failed source.old ≡ false → IfSome (S.remaining source.old) (λ text. Loads K.named K.signature (S.has_failed source.new) text result) }
     ensures failed { S.has_failed source.old ≡ false → S.has_failed source.new ≡ true → result ≡ Err NetFault.Input }
@@ -32,7 +30,7 @@ pub fn load<K: Kinds, S: Source>(alloc: Global, source: &mut S) -> Result<Net<K>
     load_or_refuse(alloc, source).map_err(|refused| refused.fault)
 }
 
-/// Loads a network as `load` does, and hands back the text of a refused description beside the fault.
+/// Loads a network like `load`, and returns a refused description's text, too.
 pub fn load_or_refuse<K: Kinds, S: Source>(alloc: Global, source: &mut S) -> Result<Net<K>, Refused>
     ensures loads { S.has_failed source.old ≡ false → IfSome (S.remaining source.old) (λ text. Loads K.named K.signature (S.has_failed source.new) text (without_text result)) }
     ensures text { IfSome (S.remaining source.old) (λ text. IfErr result (IsTextOf text)) }
@@ -53,7 +51,6 @@ pub fn load_or_refuse<K: Kinds, S: Source>(alloc: Global, source: &mut S) -> Res
     }
 }
 
-/// The network that a text describes.
 fn net_of_text<K: Kinds>(alloc: Global, text: &[u8]) -> Result<Net<K>, NetFault>
     requires { length text.now ≤ longest }
     ensures { Loads K.named K.signature false text.now result }
@@ -62,10 +59,10 @@ fn net_of_text<K: Kinds>(alloc: Global, text: &[u8]) -> Result<Net<K>, NetFault>
     Net::check(alloc, &sketch)
 }
 
-/// Returns the bytes of a source, read to its end, if a description may have that many: 1 MiB.
+/// Reads a source to its end and returns its bytes, at most 1 MiB.
 ///
-/// Errors: `Input` if a read fails or there are more bytes; `Memory` if memory was refused. What was read has
-/// then been consumed from the source.
+/// Errors: `Input` if a read fails or there are more bytes; `Memory` if out of memory. The bytes read are
+/// consumed.
 pub fn read_text<S: Source>(alloc: Global, source: &mut S) -> Result<Vec<u8>, NetFault>
     ensures ok { IfOk result (λ t. (length t.items ≤ longest) × IfSome (S.remaining source.old) (λ text. t.items ≡ text)) }
     ensures input { result ≡ Err NetFault.Input → (S.has_failed source.new ≡ true) ⊎ IfSome (S.remaining source.old) (λ text. longest < length text) }
@@ -91,7 +88,7 @@ pub fn read_text<S: Source>(alloc: Global, source: &mut S) -> Result<Vec<u8>, Ne
     Err(NetFault::Input)
 }
 
-/// Whether a text of so many bytes is read on: a description may have as many.
+/// Whether a text of `len` bytes is within the limit.
 fn goes_on(len: usize) -> bool
     ensures on { IsTrue result → len ≤ longest }
     ensures over { result ≡ false → longest < len }

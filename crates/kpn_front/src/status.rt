@@ -2,31 +2,31 @@
 ghost use Rattle.std.specs.Prelude.{◌≡◌};
 ghost use Rattle.kpn_front.specs.Statuses.{code_of};
 
-/// With what a program of this engine exits.
+/// The exit status of a program of this engine.
 #[derive(Clone, Copy, Debug, PartialEq, Eq)]
 pub enum Status {
     /// 0: the run terminated, the description was accepted, or help was asked for.
     Success,
-    /// 1: the arguments were refused, also for want of memory; or no channel has the name to show.
+    /// 1: the arguments were refused, or out of memory for them; or no channel has the name to show.
     WrongArguments,
     /// 2: the description was refused.
     Refused,
-    /// 3: the budget of entries was spent.
+    /// 3: the budget was spent.
     BudgetSpent,
-    /// 4: memory was refused.
+    /// 4: out of memory.
     MemoryRefused,
     /// 5: the run ended in a deadlock.
     Deadlocked,
-    /// 6: a channel would have grown past its ceiling.
+    /// 6: a channel at the ceiling would have to grow.
     AtCeiling,
-    /// 7: writing failed.
+    /// 7: a write failed.
     WriteFailed,
     /// 8: internal error: a worker's answer was rejected; the run was abandoned.
     Lost,
 }
 
 impl Status {
-    /// Returns the number with which the program exits, 0 to 8.
+    /// Returns the number of the exit status, 0 to 8.
     pub fn code(self) -> u8
         ensures { result ≡ code_of self }
     {

@@ -1,4 +1,4 @@
-//! Readers and writers whose contracts also say when they can't fail.
+//! Readers and writers with contracts that say when they can't fail.
 ghost use Rattle.std.specs.Prelude.{◌||◌, not, is_ok, ◌≡◌, ◌+◌, ℕ, Bool, true, false, List, Option, Some, OnOk, IsOk, length, vec_len, vec_capacity, nat_le};
 ghost use Rattle.std.specs.Io.{ReadsAtMost};
 ghost use Rattle.std.specs.Io.KnownBytes.{ReadConsumes, Appends};
@@ -7,10 +7,8 @@ ghost use Rattle.kpn_front.specs.Written.{SinkView};
 use std::io;
 use std::io::{Read, Write};
 
-/// A source of bytes.
-///
-/// `remaining` is what is left to read, if that is known; `is_steady` says that no read fails;
-/// `has_failed` says that some read has failed.
+/// A source of bytes. `remaining` is what is left to read, if known; `is_steady` if no read fails;
+/// `has_failed` if some read has failed.
 pub trait Source {
     ghost remaining: { Self → Option (List ℕ) };
 
@@ -18,10 +16,8 @@ pub trait Source {
 
     ghost has_failed: { Self → Bool };
 
-    /// Reads the next bytes into the front of `buf`, and returns how many they are: at most as many as
-    /// `buf` has room for, and 0 only at the end or if `buf` is empty.
-    ///
-    /// A read that fails consumes no byte of the source.
+    /// Reads the next bytes into the front of `buf`, and returns their number; 0 only at the end or if `buf`
+    /// is empty. A read that fails consumes nothing.
     fn read(&mut self, buf: &mut [u8]) -> io::Result<usize>
         ensures bound { ReadsAtMost result buf.new }
         ensures bytes { ReadConsumes (remaining self.old) (remaining self.new) result buf.new }
@@ -29,22 +25,20 @@ pub trait Source {
         ensures failed { has_failed self.new ≡ (has_failed self.old || not (is_ok result)) };
 }
 
-/// A sink of bytes.
-///
-/// `seen` is what contracts know of it: what has been written, if that is known, and whether a number of
-/// further bytes can be written without a failure, in one write or in several.
+/// A sink of bytes. `seen` has what has been written, if known, and whether a number of further bytes can be
+/// written without failure, in one write or several.
 pub trait Sink {
     ghost seen: { Self → SinkView };
 
-    /// Writes all the bytes. If it fails, some of them may have been written.
+    /// Writes all the bytes. If it fails, some may have been written.
     fn write_all(&mut self, bytes: &[u8]) -> io::Result<()>
         ensures bytes { OnOk result (Appends (seen self.old).contents (seen self.new).contents bytes.now) }
         ensures room { (seen self.old).takes (length bytes.now) ≡ true → IsOk result }
         ensures left { (n : ℕ) → (seen self.old).takes (length bytes.now + n) ≡ true → IsOk result × ((seen self.new).takes n ≡ true) };
 }
 
-/// A reader or a writer that may fail at any time, as a file or a terminal may. It remembers whether a
-/// read has failed.
+/// A reader or writer that may fail at any time, like a file or a terminal. Remembers whether a read has
+/// failed.
 #[derive(Drop)]
 pub struct Fallible<S> {
     inner: S,
@@ -52,7 +46,7 @@ pub struct Fallible<S> {
 }
 
 impl<S> Fallible<S> {
-    /// Wraps a reader or a writer. No read has failed yet.
+    /// Wraps a reader or writer.
     pub fn new(inner: S) -> Fallible<S>
         ensures inner { result.inner ≡ inner }
         ensures has_failed { result.has_failed ≡ false }
@@ -86,7 +80,7 @@ impl<W: Write> Sink for Fallible<W> {
     }
 }
 
-/// Bytes in memory. A read takes the first of them, and never fails.
+/// Bytes in memory. Reads take the first of them and never fail.
 impl Source for &[u8] {
     ghost remaining = { λ s. Some s.now };
 
@@ -99,7 +93,7 @@ impl Source for &[u8] {
     }
 }
 
-/// A vector, to whose end bytes are written. A write for which it has room does not fail.
+/// A vector; writes append to it. One that fits its capacity does not fail.
 impl Sink for Vec<u8> {
     ghost seen = { λ v. record { contents = Some v.items; takes = λ n. nat_le (vec_len v + n) (vec_capacity v) } };
 

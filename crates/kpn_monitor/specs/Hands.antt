@@ -1,4 +1,4 @@
--- What several tasks and their answers do, one after the other.
+-- Several tasks and their answers, one after the other.
 use Rattle.std.specs.Prelude.{◌≡◌, ◌⊎◌, ℕ, List, [], ◌∷◌, Option, set}
 use Rattle.kpn_model.specs.declared.token.Token.{Token}
 use Rattle.kpn_model.specs.declared.kinds.Card.{Card}
@@ -13,48 +13,48 @@ use Rattle.kpn_monitor.specs.declared.guarded.Went.{Went}
 use Rattle.kpn_monitor.specs.declared.guarded.Went.TheVariants.{On, Nowhere, Over}
 use Rattle.kpn_monitor.specs.Kept.{WasCommitted}
 
--- these are the answers to the first of the tasks, in order
+-- the answers to the first tasks, in order
 abbrev pub AreAnswers : Family → List Input → List Answer → Type 0
 AreAnswers kinds tasks [] = Unit {0}
 AreAnswers kinds [] (a ∷ answers) = ⊥
 AreAnswers kinds (i ∷ tasks) (a ∷ answers) = (a ≡ answer_to kinds i) × AreAnswers kinds tasks answers
 
--- these tasks go out, one after the other
+-- the tasks go out, one after the other
 abbrev pub TakesOutAll : MachineView → List Input → MachineView → Type 0
 TakesOutAll s [] t = t ≡ s
 TakesOutAll s (i ∷ tasks) t = (m : MachineView) × TakesOut s i m × TakesOutAll m tasks t
 
--- a process may have gone out again at once, with the first of these tasks
+-- a process may have gone out again at once, with the first task
 abbrev pub GoesOutAgain : MachineView → List Input → MachineView → List Input → Type 0
 GoesOutAgain s again t rest = ((again ≡ rest) × (t ≡ s)) ⊎ ((i : Input) × (again ≡ i ∷ rest) × TakesOut s i t)
 
--- the answers to the first of the tasks are taken, one after the other, each with the corresponding outcome and its number of
--- entries, and processes go out again with the tasks `again`; the tasks `left` remain
+-- the answers to the first tasks are committed in order, with these outcomes; processes go out again with
+-- `again`; `left` remain
 abbrev pub Gives : Family → MachineView → List Input → List Outcome → List Input → MachineView → List Input → Type 0
 Gives kinds s tasks [] again t left = (t ≡ s) × (left ≡ tasks) × (again ≡ [])
 Gives kinds s [] (o ∷ outcomes) again t left = ⊥
 Gives kinds s (i ∷ tasks) (o ∷ outcomes) again t left = (m : MachineView) × Commits kinds s i o m × Appends kinds s m (entries_appended o) × (n : MachineView) × (rest : List Input) × GoesOutAgain m again n rest × Gives kinds n tasks outcomes rest t left
 
--- a process that is out with this task is ready again; if none is, nothing changes
+-- the process that is out with this task becomes ready; if none is, nothing changes
 abbrev pub TakesBack : MachineView → Input → MachineView → Type 0
 TakesBack s i t = (IsOut s i × (t ≡ record s { standings = set s.standings i.process Ready })) ⊎ ((IsOut s i → ⊥) × (t ≡ s))
 
--- the processes that are out with these tasks are ready again, from the last one on
+-- the processes that are out with these tasks become ready, the last first
 abbrev pub TakesBackAll : MachineView → List Input → MachineView → Type 0
 TakesBackAll s [] t = t ≡ s
 TakesBackAll s (i ∷ tasks) t = (m : MachineView) × TakesBackAll s tasks m × TakesBack m i t
 
--- answers were given as above, and then those that went out again came back
+-- `Gives`, and then those that went out again return
 abbrev pub GivesBack : Family → MachineView → List Input → List Outcome → MachineView → List Input → Type 0
 GivesBack kinds s tasks outcomes t left = (m : MachineView) × (again : List Input) × Gives kinds s tasks outcomes again m left × TakesBackAll m again t
 
--- the answers to the first of the tasks were committed, each with the corresponding outcome; the tasks `left` remain
+-- the answers to the first tasks were committed, with these outcomes; `left` remain
 abbrev pub WereCommitted : Family → (Card → List ℕ → Option Token → Type 0) → Network → List Input → List Outcome → List Input → Type 0
 WereCommitted kinds admits net tasks [] left = left ≡ tasks
 WereCommitted kinds admits net [] (o ∷ outcomes) left = ⊥
 WereCommitted kinds admits net (i ∷ tasks) (o ∷ outcomes) left = WasCommitted kinds admits net i o × WereCommitted kinds admits net tasks outcomes left
 
--- how many answers were taken where bodies were asked in place
+-- how many answers were taken in place
 abbrev pub answers_of : Went → ℕ
 answers_of (On n waited) = n
 answers_of Nowhere = 0

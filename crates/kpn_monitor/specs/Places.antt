@@ -13,20 +13,20 @@ use Rattle.kpn_monitor.specs.Views.{Placed}
 use Rattle.kpn_monitor.specs.Kept.{WasCommitted, WasTaken}
 use Rattle.kpn_monitor.specs.Hands.{AreAnswers, GoesOutAgain}
 
--- the tasks that lie in these places, in order
+-- the tasks in these places, in order
 abbrev pub tasks_in : List (Option Input) → List Input
 tasks_in [] = []
 tasks_in (None ∷ places) = tasks_in places
 tasks_in (Some i ∷ places) = i ∷ tasks_in places
 
--- a task lies in each of these places
+-- no place is free
 abbrev pub AreTaken : List (Option Input) → Type 0
 AreTaken [] = Unit {0}
 AreTaken (None ∷ places) = ⊥
 AreTaken (Some i ∷ places) = AreTaken places
 
--- of at most 64 places the first hold `kept` tasks that went out again, those before `given` may be free, and from there on each
--- holds a task, of which the first are called
+-- at most 64 places: the first `kept` hold tasks that went out again, then some may be free, and from `given`
+-- on they hold tasks, the first of them called
 pub record IsLaidOut (kinds : Family) (places : List (Option Input)) (answers : List Answer) (given kept : ℕ) : Type 0 where
   pub few : length places ≤ 64
   pub in_order : kept ≤ given
@@ -36,7 +36,7 @@ pub record IsLaidOut (kinds : Family) (places : List (Option Input)) (answers : 
   pub tasks : AreTaken (drop given places)
   pub answered : AreAnswers kinds (tasks_in (drop given places)) (drop given answers)
 
--- the first answer in these places was given to a machine; its process may have gone out again
+-- the first answer was given to a machine; its process may have gone out again
 pub record GivesFirst (kinds : Family) (admits : Card → List ℕ → Option Token → Type 0) (s : MachineView) (p : Placed) (t : MachineView) (q : Placed) : Type 0 where
   pub input : Input
   pub outcome : Outcome

@@ -5,44 +5,43 @@ use Rattle.kpn_body.specs.Input.{Input}
 use Rattle.kpn_commit.specs.declared.outcome.Outcome.{Outcome}
 use Rattle.kpn_machine.specs.MachineView.{MachineView}
 
--- what contracts see of a seat: its parts, and its share of each ledger
+-- a seat: its parts, and its share of each ledger
 pub record Shares : Type 0 where
   pub parts : ℕ
   pub entries : ℕ
   pub overs : ℕ
 
--- the name and the parts of a ledger
+-- a ledger: its name and parts
 pub record LedgerOf : Type 0 where
   pub name : ℕ
   pub parts : ℕ
 
--- what contracts see of an opening
+-- an opening
 pub record Unopened : Type 0 where
   pub machine : MachineView
   pub board : TableId
   pub entries : LedgerOf
   pub overs : LedgerOf
 
--- what contracts see of a closed monitor, and of a watched run
+-- a closed monitor, and a watched run
 pub record ClosedView : Type 0 where
   pub machine : MachineView
   pub receipts : ℕ
 
--- what contracts see of what the lock guards: the machine, how often an end was met, and how many watchers were made
+-- what the lock guards: the machine, how often an end was met, and how many watchers were made
 pub record UnderLock : Type 0 where
   pub machine : MachineView
   pub overs : ℕ
   pub watchers : ℕ
 
--- what contracts see of a hand: its tasks, in the order in which they were taken; how many of them, from the first on, were
--- called; and the outcomes of the answers that it gave last
+-- a hand: its tasks, in the order taken; how many, from the first, were called; and the last outcomes
 pub record Holding : Type 0 where
   pub tasks : List Input
   pub called : ℕ
   pub outcomes : List Outcome
 
--- what contracts see of the places of a hand: the tasks that went out again; those whose answers were not given, and how many of
--- these, from the first on, were called; how many answers were given; and the outcomes of these
+-- the places of a hand: the tasks that went out again; those with answers not given, and how many of them
+-- were called; how many answers were given, and their outcomes
 pub record Placed : Type 0 where
   pub again : List Input
   pub tasks : List Input

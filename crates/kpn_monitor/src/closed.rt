@@ -1,4 +1,4 @@
-//! A monitor that was closed.
+//! A closed monitor.
 ghost use Rattle.std.specs.Prelude.{◌≡◌, ◌≢◌, length};
 ghost use Rattle.kpn_model.specs.Families.{family};
 ghost use mathlib.Core.List.{IsPrefix};
@@ -20,15 +20,15 @@ use kpn_watch::{Board, CountingPublisher, Progress, Watcher};
 use std::marker::{Model, PhantomData};
 use std::sync::ledger::Ledger;
 
-/// Why a monitor was not closed.
+/// Why `close` failed.
 #[derive(Clone, Copy, Debug, PartialEq, Eq)]
 pub enum CloseFault {
-    /// What the seats hold does not add up to the books.
+    /// The seats' shares do not add up to the books.
     SeatsMissing = 1,
 }
 
 impl CloseFault {
-    /// Returns the number of the fault: 1.
+    /// Returns the fault's number, 1.
     pub fn number(&self) -> u8
         ensures { result ≡ 1 }
     {
@@ -38,7 +38,7 @@ impl CloseFault {
     }
 }
 
-/// What `close` hands back if it fails: the monitor and the seats.
+/// What `close` returns if it fails: the monitor and the seats.
 #[derive(Drop)]
 pub struct Unclosed<B: Body, E: EntryLedger, O: Ledger, H: Keeper = Wide> {
     pub monitor: Monitor<B, E, O, H>,
@@ -46,7 +46,7 @@ pub struct Unclosed<B: Body, E: EntryLedger, O: Ledger, H: Keeper = Wide> {
 }
 
 impl<B: Body, E: EntryLedger, O: Ledger, H: Keeper> Unclosed<B, E, O, H> {
-    /// Returns why the monitor was not closed.
+    /// Returns why `close` failed.
     pub fn fault(&self) -> CloseFault
         ensures { result ≡ CloseFault.SeatsMissing }
     {
@@ -54,10 +54,8 @@ impl<B: Body, E: EntryLedger, O: Ledger, H: Keeper> Unclosed<B, E, O, H> {
     }
 }
 
-/// A monitor that was closed: what its machine left behind, and the receipts, which are the sum of the
-/// seats' shares of entries. There are as many receipts as entries.
-///
-/// Only `Monitor::close` makes one.
+/// The machine's network, history, standings and end, and the receipts: the sum of the seats' shares of
+/// entries, as many as entries. Only `Monitor::close` makes one.
 #[derive(Drop)]
 pub struct Closed<K: Kinds, E: EntryLedger, H: Keeper = Wide> {
     chronicle: Chronicle<K, H>,
@@ -103,7 +101,7 @@ impl<K: Kinds, E: EntryLedger, H: Keeper> Closed<K, E, H> {
         }
     }
 
-    /// Returns the network, which is the one that the monitor's type names.
+    /// Returns the network, which the monitor's type names.
     pub fn net(&self) -> &Net<K>
         ensures { result.now ≡ self.now.machine.network }
     {
@@ -118,7 +116,7 @@ impl<K: Kinds, E: EntryLedger, H: Keeper> Closed<K, E, H> {
         self.receipts
     }
 
-    /// Returns how the run ended; `None` if it did not.
+    /// Returns how the run ended; `None` if it has not.
     pub fn end(&self) -> Option<End>
         ensures end { result ≡ self.now.machine.end }
         ensures faithful { IsFaithful (family K.Kinds) K.admits self.now.machine }
@@ -126,9 +124,9 @@ impl<K: Kinds, E: EntryLedger, H: Keeper> Closed<K, E, H> {
         self.chronicle.end()
     }
 
-    /// Ends a watcher of this monitor, and returns the number of entries and of growths of the whole
-    /// history and how it ended. The history goes on from what the watcher had seen, and is the same if
-    /// the watcher had seen an end. Takes no memory, and waits for nobody.
+    /// Consumes a watcher of this monitor, and returns the numbers of entries and growths and how the run
+    /// ended. What the watcher saw is a prefix of the history, and all of it if it saw an end. Takes no
+    /// memory and never waits.
     pub fn settle(&mut self, watcher: Watcher) -> Progress
         requires { watcher.board ≡ E.board }
         ensures goes_on { IsPrefix watcher.entries self.old.machine.history }
@@ -139,7 +137,7 @@ impl<K: Kinds, E: EntryLedger, H: Keeper> Closed<K, E, H> {
         self.publisher.join(&self.board, watcher)
     }
 
-    /// Returns what the machine left behind: network, history, standings and end.
+    /// Returns the machine's network, history, standings and end.
     pub fn into_chronicle(self) -> Chronicle<K, H>
         ensures { result ≡ self.machine }
     {

@@ -1,4 +1,4 @@
-//! How the answers of a hand are given to a machine.
+//! Commits the answers of a hand to a machine.
 ghost use Rattle.std.specs.Prelude.{◌≡◌, ◌+◌, ◌<◌, ◌≤◌, [], ◌∷◌, length, slice_get, Some, MatchOption};
 ghost use Rattle.std.specs.List.{All};
 ghost use Rattle.kpn_model.specs.Families.{family};
@@ -14,7 +14,6 @@ use kpn_body::{Body, Finished};
 use kpn_machine::{Machine, Outcome};
 use kpn_state::Keeper;
 
-/// Gives an answer to the machine that asked for it.
 #[inline(always)]
 pub(crate) fn give_one<B: Body, H: Keeper>(
     machine: &mut Machine<B, H>,
@@ -30,8 +29,7 @@ pub(crate) fn give_one<B: Body, H: Keeper>(
     machine.commit_asked(finished)
 }
 
-/// Gives the first answer to the machine, which sent out its task; the process does not go out again. It is a
-/// function of its own, out of the way of answers after which processes do.
+/// Not inlined, to keep it out of the way of the answers after which processes go out again.
 #[inline(never)]
 fn give_up<B: Body, H: Keeper>(machine: &mut Machine<B, H>, places: &mut Places<B>)
     requires called { 0 < places.old.called }
@@ -44,8 +42,7 @@ fn give_up<B: Body, H: Keeper>(machine: &mut Machine<B, H>, places: &mut Places<
     places.note(outcome);
 }
 
-/// Gives the first answer to the machine, which sent out its task. The process goes out again at once if it can
-/// and fewer than `keep` did.
+/// Commits the first answer. Its process goes out again at once if it can and fewer than `keep` have.
 #[inline(always)]
 fn give_first<B: Body, H: Keeper>(machine: &mut Machine<B, H>, places: &mut Places<B>, keep: usize)
     requires called { 0 < places.old.called }
@@ -64,7 +61,7 @@ fn give_first<B: Body, H: Keeper>(machine: &mut Machine<B, H>, places: &mut Plac
     give_up(machine, places);
 }
 
-/// Removes the first task, which was called, with its answer, which the machine did not ask for.
+/// For an answer that the machine did not ask for.
 #[cold]
 #[inline(never)]
 fn refuse<B: Body>(places: &mut Places<B>) -> Finished<B>
@@ -77,8 +74,8 @@ fn refuse<B: Body>(places: &mut Places<B>) -> Finished<B>
     places.leave()
 }
 
-/// Gives the answers in these places to a machine, one after the other. At most `keep` processes that can go
-/// on go out again at once. Stops at an answer that the machine did not ask for, and returns it.
+/// Commits the answers, one after the other. At most `keep` processes that can continue go out again at once.
+/// Stops at an answer that the machine did not ask for, and returns it.
 #[inline(always)]
 pub(crate) fn give_all<B: Body, H: Keeper>(
     machine: &mut Machine<B, H>,
@@ -106,7 +103,7 @@ pub(crate) fn give_all<B: Body, H: Keeper>(
     None
 }
 
-/// Gives the tasks that went out again back to the machine, but one whose process came back by another answer.
+/// Takes back the tasks that went out again, except any whose process is no longer out.
 #[cold]
 #[inline(never)]
 pub(crate) fn give_back<B: Body, H: Keeper>(machine: &mut Machine<B, H>, places: &mut Places<B>)

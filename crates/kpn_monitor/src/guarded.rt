@@ -1,8 +1,8 @@
 //! What the lock guards.
 //!
-//! Whenever the lock is free, the history is a run of the network from its start; an end is justified
-//! and stays; the total of the book of entries is the length of the history; the run has ended if the
-//! book of overs is not empty; and what is published is the history with the phase of its end.
+//! Whenever the lock is free, the history is a run of the network; an end is justified and final; the book of
+//! entries totals the length of the history; the run has ended if the book of overs is not empty; and the
+//! history and the phase of its end are published.
 ghost use Rattle.std.specs.Prelude.{Bool, ℕ, List, ◌≡◌, ◌≢◌, ◌+◌, ◌^◌, ◌<◌, ◌≤◌, ◌↔◌, [], ◌∷◌, ◌++◌, true, false, length, Some, IfNone, Ok, IfSome, IfOk, IfErr, IsErr, OnOk, OnErr, IsSome, MatchOption, MatchResult};
 ghost use mathlib.Core.List.{IsPrefix};
 ghost use Rattle.kpn_model.specs.Families.{family};
@@ -32,11 +32,11 @@ use kpn_watch::{Board, CountingPublisher, MOST_WATCHERS, Publisher, WatchFault, 
 use std::marker::Model;
 use std::sync::ledger::{Book, Ledger, Share};
 
-/// Workers that rest count in how the ready processes are shared out until so many answers of each process
-/// were committed, at the start of a run and after each time that calls held up all who called.
+/// Resting workers count as sharers of the ready processes until this many answers per process were
+/// committed, from the start and from each pause without commits.
 const TRIAL: u64 = 16;
 
-/// What a worker is given: a task, or the end of the run.
+/// What a worker gets: a task, or the end of the run.
 #[derive(Drop)]
 pub enum Taken<B: Body> {
     /// A process that is now out, with the input for its body.
@@ -45,29 +45,28 @@ pub enum Taken<B: Body> {
     Over(End),
 }
 
-/// What a hand was given.
+/// What a hand received.
 #[derive(Clone, Copy, Debug, PartialEq, Eq)]
 pub enum Next {
     /// At least one task.
     Tasks,
-    /// Nothing, since no process was ready, or no task was asked for.
+    /// Nothing: no process was ready, or no task was asked for.
     Nothing,
     /// The run has ended.
     Over(End),
 }
 
-/// What came of asking processes in place.
+/// The result of asking processes in place.
 #[derive(Clone, Copy, Debug, PartialEq, Eq)]
 pub enum Went {
-    /// At least one answer was taken: how many, and whether the lock had to be waited for.
+    /// At least one answer: how many, and whether the worker waited for the lock.
     On { answers: u64, waited: bool },
-    /// None was: no process was ready, or none was to be asked.
+    /// No answer: no process was ready, or none was to be asked.
     Nowhere,
     /// The run has ended.
     Over(End),
 }
 
-/// Which of the waiting threads are to be woken.
 pub(crate) enum Wakes {
     All,
     AtMost(usize),
@@ -100,7 +99,6 @@ impl<B: Body, E: EntryLedger, O: Ledger, H: Keeper> Model for Guarded<B, E, O, H
 }
 
 impl<B: Body, E: EntryLedger, O: Ledger, H: Keeper> Guarded<B, E, O, H> {
-    /// A fresh machine with empty books.
     pub(crate) fn new(
         machine: Machine<B, H>,
         publisher: Publisher,
@@ -126,8 +124,8 @@ impl<B: Body, E: EntryLedger, O: Ledger, H: Keeper> Guarded<B, E, O, H> {
         }
     }
 
-    /// Takes a task, or meets the end of the run and notes it in the seat. `None` if there is neither,
-    /// or if the book of overs is full.
+    /// Takes a task, or meets the end of the run. Returns `None` if no process is ready, or if the book of
+    /// overs is full.
     pub(crate) fn take(&mut self, seat: &mut Seat<E, O>) -> Option<Taken<B>>
         ensures none { IfNone result ((seat.new ≡ seat.old) × (self.new ≡ self.old)) }
         ensures nothing { IfNone result (FoundNothing (family B.Kinds.Kinds) B.Kinds.admits E.net) }
@@ -154,7 +152,6 @@ impl<B: Body, E: EntryLedger, O: Ledger, H: Keeper> Guarded<B, E, O, H> {
         }
     }
 
-    /// Gives an answer to the machine, publishes what it appended, and books it.
     pub(crate) fn commit(
         &mut self,
         board: &Board,
@@ -175,9 +172,8 @@ impl<B: Body, E: EntryLedger, O: Ledger, H: Keeper> Guarded<B, E, O, H> {
         Ok(outcome)
     }
 
-    /// Gives the answers of a hand, all of whose tasks were called, to the machine, one after the other, then
-    /// publishes and books what they appended. At most `keep` processes go out again at once, and their tasks
-    /// are in the hand. Stops at an answer that the machine did not ask for, and returns it.
+    /// Commits the answers of a hand, publishes and books the new entries. At most `keep` processes go out
+    /// again at once. Stops at an answer that the machine did not ask for, and returns it.
     pub(crate) fn give(
         &mut self,
         board: &Board,
@@ -204,7 +200,7 @@ impl<B: Body, E: EntryLedger, O: Ledger, H: Keeper> Guarded<B, E, O, H> {
         refused
     }
 
-    // Meets the end of the run and notes it in the seat, if there is one; takes no task.
+    // Notes in the seat that the run has ended, if it has.
     fn meet_end(&mut self, seat: &mut Seat<E, O>) -> Next
         ensures machine { self.new.machine ≡ self.old.machine }
         ensures none { result ≢ Next.Tasks }
@@ -224,8 +220,8 @@ impl<B: Body, E: EntryLedger, O: Ledger, H: Keeper> Guarded<B, E, O, H> {
         }
     }
 
-    /// Takes more tasks for a hand, whose tasks went out again just now, until it has as many as are wanted, at most
-    /// `most`; or, if it has none, meets the end of the run and notes it in the seat, also if `most` is 0.
+    /// Fills the hand, which holds only tasks that just went out again, up to `wanted`. If it is empty or
+    /// `most` is 0, meets the end of the run, if there is one.
     pub(crate) fn deal(
         &mut self,
         hand: &mut Hand<B>,
@@ -265,7 +261,6 @@ impl<B: Body, E: EntryLedger, O: Ledger, H: Keeper> Guarded<B, E, O, H> {
         }
     }
 
-    /// Gives the answers of a hand, all of whose tasks were called, and takes at most `most` new tasks.
     pub(crate) fn exchange(
         &mut self,
         board: &Board,
@@ -289,7 +284,7 @@ impl<B: Body, E: EntryLedger, O: Ledger, H: Keeper> Guarded<B, E, O, H> {
         ensures ended { (e : EndV) → result ≡ Ok (Next.Over e) → HasEnded (family B.Kinds.Kinds) B.Kinds.admits E.net e }
     {
         let wanted = self.wanted(hand, most);
-        // Those that are ready have waited, so they come before those that could stay.
+        // Ready processes have waited, so they come before those that could stay.
         let keep = wanted.min(most).saturating_sub(self.machine.ready());
         match self.give(board, hand, seat, keep) {
             Some(finished) => Err(Stranger { finished }),
@@ -297,9 +292,8 @@ impl<B: Body, E: EntryLedger, O: Ledger, H: Keeper> Guarded<B, E, O, H> {
         }
     }
 
-    /// Has the machine ask ready processes where their bodies lie, until `most` answers were taken, no
-    /// process is ready or the run has ended; then publishes and books what was appended. If no answer was
-    /// taken, meets the end of the run and notes it in the seat, if there is one.
+    /// Asks ready processes in place, publishes and books the new entries. Without an answer, meets the end
+    /// of the run, if there is one.
     pub(crate) fn ask_in_place(
         &mut self,
         board: &Board,
@@ -332,8 +326,6 @@ impl<B: Body, E: EntryLedger, O: Ledger, H: Keeper> Guarded<B, E, O, H> {
         Went::On { answers, waited }
     }
 
-    // How many tasks a hand is to have, if at most so many are wanted: its share of its own processes and of
-    // those that are ready.
     fn wanted(&self, hand: &Hand<B>, most: usize) -> usize
         ensures some { (1 ≤ result) × (result ≤ 64) }
         ensures most { 1 ≤ most → result ≤ most }
@@ -342,7 +334,6 @@ impl<B: Body, E: EntryLedger, O: Ledger, H: Keeper> Guarded<B, E, O, H> {
         hand.wanted(share, most, self.sharing())
     }
 
-    // Takes more tasks, until there are as many as are wanted or no process is ready.
     fn deal_more(&mut self, hand: &mut Hand<B>, wanted: usize)
         requires some { 0 < length hand.old.tasks }
         requires room { wanted ≤ 64 }
@@ -359,7 +350,6 @@ impl<B: Body, E: EntryLedger, O: Ledger, H: Keeper> Guarded<B, E, O, H> {
         }
     }
 
-    // Takes one more task. False if no process is ready.
     fn deal_one(&mut self, hand: &mut Hand<B>) -> bool
         requires { length hand.old.tasks < 64 }
         ensures more { result ≡ true → (i : Input) × (hand.new ≡ record hand.old { tasks = hand.old.tasks ++ i ∷ [] }) × TakesOut self.old.machine i self.new.machine × WasTaken (family B.Kinds.Kinds) B.Kinds.admits E.net i }
@@ -376,7 +366,7 @@ impl<B: Body, E: EntryLedger, O: Ledger, H: Keeper> Guarded<B, E, O, H> {
         }
     }
 
-    /// Whether `take` would return something.
+    /// Whether a process is ready or the run has ended.
     pub(crate) fn has_work(&self) -> bool {
         self.machine.ready() > 0 || self.machine.end().is_some()
     }
@@ -386,16 +376,15 @@ impl<B: Body, E: EntryLedger, O: Ledger, H: Keeper> Guarded<B, E, O, H> {
         self.machine.commits()
     }
 
-    /// Notes that no answer was committed for a while: calls hold their workers up.
+    /// Notes that nothing was committed for a while: calls hold up their workers.
     pub(crate) fn hold_up(&mut self)
         ensures { self.new ≡ self.old }
     {
         self.held_up_at = self.machine.commits();
     }
 
-    // How the ready processes are shared out: one by one, until there are as many answers as processes,
-    // so that each was taken once; in a trial, among all workers; and after it among those that are
-    // awake.
+    // One by one until there are as many answers as processes, so that each was taken once; then, during a
+    // trial, among all workers; then among those awake.
     fn sharing(&self) -> Sharing {
         let answers = self.machine.commits();
         let processes = self.machine.net().processes() as u64;
@@ -409,22 +398,19 @@ impl<B: Body, E: EntryLedger, O: Ledger, H: Keeper> Guarded<B, E, O, H> {
         }
     }
 
-    /// Counts a thread that is about to wait.
     pub(crate) fn begin_waiting(&mut self)
         ensures { self.new ≡ self.old }
     {
         self.waiting = self.waiting.saturating_add(1);
     }
 
-    /// Counts a thread that no longer waits.
     pub(crate) fn end_waiting(&mut self)
         ensures { self.new ≡ self.old }
     {
         self.waiting = self.waiting.saturating_sub(1);
     }
 
-    /// Which waiting threads have something to do: all if the run has ended, else at most as many as
-    /// there are ready processes. Nothing is claimed about waking.
+    /// All if the run has ended, else at most one per ready process. No contract covers waking.
     pub(crate) fn wakes(&self) -> Wakes {
         if self.waiting == 0 {
             return Wakes::AtMost(0);
@@ -435,7 +421,6 @@ impl<B: Body, E: EntryLedger, O: Ledger, H: Keeper> Guarded<B, E, O, H> {
         Wakes::AtMost(self.machine.ready().min(self.waiting))
     }
 
-    /// How many entries the history has, and how often an end was met.
     pub(crate) fn counts(&self) -> (u64, u64)
         ensures entries { result.0 ≡ length self.now.machine.history }
         ensures overs { result.1 ≡ self.now.overs }
@@ -446,7 +431,6 @@ impl<B: Body, E: EntryLedger, O: Ledger, H: Keeper> Guarded<B, E, O, H> {
         (self.machine.entries() as u64, self.over_count)
     }
 
-    /// Makes a watcher that has seen the history so far, which is a run.
     pub(crate) fn watch(&mut self, board: &Board) -> Result<Watcher, WatchFault>
         requires { board.now ≡ E.board }
         ensures seen { IfOk result (λ w. w ≡ record { board = E.board; entries = self.old.machine.history; phase = phase_of self.old.machine.end }) }
@@ -469,7 +453,6 @@ impl<B: Body, E: EntryLedger, O: Ledger, H: Keeper> Guarded<B, E, O, H> {
         self.overs.audit(overs);
     }
 
-    /// The machine without its bodies, and its publisher.
     pub(crate) fn into_chronicle(self) -> (Chronicle<B::Kinds, H>, CountingPublisher)
         ensures is { result.0 ≡ self.machine }
         ensures network { result.0.network ≡ E.net }
@@ -489,7 +472,6 @@ impl<B: Body, E: EntryLedger, O: Ledger, H: Keeper> Guarded<B, E, O, H> {
     }
 }
 
-/// Publishes the history of a machine, which goes on from the published one, with its end.
 fn publish<B: Body, H: Keeper>(
     machine: &Machine<B, H>,
     publisher: &mut CountingPublisher,
@@ -507,7 +489,6 @@ fn publish<B: Body, H: Keeper>(
     publisher.publish_kept(board, machine.keeper(), machine.growths(), ended);
 }
 
-/// How many entries were appended.
 fn count_of(outcome: Outcome) -> u64
     ensures { result ≡ entries_appended outcome }
 {

@@ -1,4 +1,4 @@
-//! What a worker holds.
+//! A worker's batch of tasks.
 ghost use Rattle.std.specs.Prelude.{◌≡◌, ◌≢◌, ◌+◌, ◌<◌, ◌≤◌, [], ◌∷◌, ◌++◌, Some, None, length, slice_get, IfOk, IfNone, IfSome, MatchOption};
 ghost use Rattle.std.specs.List.{All};
 ghost use Rattle.kpn_model.specs.Families.{family};
@@ -14,21 +14,19 @@ use kpn_state::Keeper;
 use std::alloc::{AllocError, Global};
 use std::marker::Model;
 
-/// How the ready processes are shared out among the workers.
+/// How workers share the ready processes.
 #[derive(Clone, Copy)]
 pub(crate) enum Sharing {
     /// One at a time, if there are several workers.
     OneByOne,
-    /// In equal shares for all workers.
+    /// In equal shares among all workers.
     AmongAll,
-    /// If more processes are ready than there are workers, in equal shares for those awake; otherwise for
-    /// all.
+    /// Among the workers awake if more processes are ready than there are workers, otherwise among all.
     AmongAwake,
 }
 
-/// The tasks that a worker holds, at most 64, and the outcomes of the answers that it gave last.
-///
-/// No contract speaks of the number of workers that share the ready processes (`sharers`).
+/// The tasks that a worker holds, at most 64, and the outcomes of the answers it gave last. `sharers` workers
+/// share the ready processes; no contract mentions them.
 #[derive(Drop)]
 pub struct Hand<B: Body> {
     places: Places<B>,
@@ -50,8 +48,8 @@ impl<B: Body> Model for Hand<B> {
 }
 
 impl<B: Body> Hand<B> {
-    /// Makes an empty hand. Its worker is one of `sharers` workers that share the ready processes; 0
-    /// counts as 1. Fails if memory was refused.
+    /// Makes an empty hand for one of `sharers` workers that share the ready processes; 0 counts as 1.
+    /// Errors: out of memory.
     pub fn new(alloc: Global, sharers: usize) -> Result<Hand<B>, AllocError>
         ensures { IfOk result (λ h. h ≡ record { tasks = []; called = 0; outcomes = [] }) }
     {
@@ -64,16 +62,16 @@ impl<B: Body> Hand<B> {
         })
     }
 
-    /// Says how many threads can run at once; without it, as many as there are workers. A worker that
-    /// rests goes on beyond that only if nothing is committed though a process is ready.
+    /// Sets how many threads can run at once, by default as many as there are workers. If that many are
+    /// awake, a resting worker continues only if nothing is committed although a process is ready.
     pub fn know_processors(&mut self, processors: usize)
         ensures { self.new ≡ self.old }
     {
         self.processors = processors.max(1);
     }
 
-    /// Calls the first task that was not called yet, and returns the number of its process. `None`
-    /// exactly if all were called, and nothing changes then. Takes no lock and no memory.
+    /// Calls the first task not called yet, and returns the number of its process; `None` exactly if all were
+    /// called. Takes no lock and no memory.
     #[inline]
     pub fn call(&mut self) -> Option<usize>
         ensures none { IfNone result ((self.old.called ≡ length self.old.tasks) × (self.new ≡ self.old)) }
@@ -83,14 +81,14 @@ impl<B: Body> Hand<B> {
         self.places.call()
     }
 
-    /// Returns the outcomes of the answers that were given last, in the order of their tasks.
+    /// Returns the outcomes of the answers given last, in the order of their tasks.
     pub fn outcomes(&self) -> &[Outcome]
         ensures { result.now ≡ self.now.outcomes }
     {
         self.places.outcomes()
     }
 
-    /// Returns how many tasks there are.
+    /// Returns the number of tasks.
     pub fn len(&self) -> usize
         ensures len { result ≡ length self.now.tasks }
         ensures few { result ≤ 64 }
@@ -98,9 +96,9 @@ impl<B: Body> Hand<B> {
         self.places.len()
     }
 
-    /// Gives the answers of the tasks that were called to the machine, one after the other. At most `keep`
-    /// processes that can go on go out again at once, and their tasks are the hand's next ones. Stops at an
-    /// answer that the machine did not ask for, and returns it; then, and if the run has ended, none stays out.
+    /// Commits the answers, one after the other. At most `keep` processes that can continue go out again at
+    /// once. Stops at an answer that the machine did not ask for, and returns it; then, and if the run has
+    /// ended, none stays out.
     pub(crate) fn give<H: Keeper>(
         &mut self,
         machine: &mut Machine<B, H>,
@@ -127,7 +125,6 @@ impl<B: Body> Hand<B> {
         refused
     }
 
-    /// Appends a task.
     #[inline]
     pub(crate) fn put(&mut self, task: Task<B>)
         requires { length self.old.tasks < 64 }
@@ -141,7 +138,7 @@ impl<B: Body> Hand<B> {
         awake < self.processors as u64
     }
 
-    /// Notes how many workers are awake: at least 2 and at most all; all, if `awake` is 0.
+    /// Notes how many workers are awake, limited to 2 to `sharers`; 0 means all.
     pub(crate) fn see_awake(&mut self, awake: u64)
         ensures { self.new ≡ self.old }
     {
@@ -151,8 +148,7 @@ impl<B: Body> Hand<B> {
         };
     }
 
-    /// How many tasks to take if `ready` processes are ready and at most `most` tasks are wanted: the
-    /// worker's share, but at least one.
+    /// Returns the worker's share of `ready` processes, at least one, at most `most`.
     pub(crate) fn wanted(&self, ready: usize, most: usize, sharing: Sharing) -> usize
         ensures some { (1 ≤ result) × (result ≤ 64) }
         ensures most { 1 ≤ most → result ≤ most }
@@ -165,7 +161,7 @@ impl<B: Body> Hand<B> {
         share.min(most).clamp(1, MOST_TASKS)
     }
 
-    /// Whether its worker wants to rest for the first time.
+    /// Whether the worker wants to rest for the first time.
     pub(crate) fn wants_rest_anew(&mut self) -> bool
         ensures { self.new ≡ self.old }
     {

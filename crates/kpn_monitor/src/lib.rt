@@ -1,5 +1,5 @@
-//! A Parks machine that threads share: under one lock, with a ledger of the entries that each worker
-//! brought about, and with a board that watchers read without the lock.
+//! A Parks machine that threads share under a lock, with ledgers of their entries, and a board that watchers
+//! read without the lock.
 //!
 //! ```text
 //! match monitor.take(rt, seat) {
@@ -22,9 +22,8 @@
 //! }
 //! ```
 //!
-//! A worker has a `Seat`. It takes a task from the `Monitor`, calls it outside the lock, and commits
-//! the answer. After the work `Monitor::close` compares the seats with the books, and returns the
-//! history.
+//! A worker has a `Seat`. It takes a task from the `Monitor`, calls it outside the lock, and commits the
+//! answer. At the end `Monitor::close` compares the seats with the books, and returns the history.
 #![tactic(auto)]
 
 mod closed;

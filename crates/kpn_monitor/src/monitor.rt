@@ -33,35 +33,33 @@ use std::sync::ledger::Ledger;
 use std::sync::{Condvar, Mutex, MutexGuard, Wait};
 use std::time::{Duration, Instant};
 
-/// The parts of each ledger.
 const PARTS: u32 = 65536;
 
-/// How often a thread looks whether the lock is free before it sleeps, and how long it pauses between.
+/// How often a thread tries the lock before it sleeps, and how long it pauses in between.
 const LOOKS: u32 = 250;
 
 const PAUSES: u32 = 8;
 
-/// A machine that threads share, under a lock. Beside the lock there is a board on which each commit
-/// shows how far the history has come. The monitor's type names the network, the board and two ledgers,
-/// so the type of a seat says which monitor it belongs to.
+/// A machine that threads share under a lock. Each commit also publishes its progress on a board that is read
+/// without the lock. The type names the network, the board and two ledgers, so a seat's type names its
+/// monitor.
 ///
-/// The two ledgers are of the entries that were appended, and of the ends that were met ("overs"). Each
-/// seat has a share of both, and a book under the lock holds each ledger's total.
+/// One ledger counts entries, the other the ends met ("overs"). Each seat has a share of both, and a book
+/// under the lock each total.
 pub struct Monitor<B: Body, E: EntryLedger, O: Ledger, H: Keeper = Wide> {
     state: Mutex<Guarded<B, E, O, H>>,
-    /// Where threads wait for a ready process or the end, with the lock of `state`.
+    /// Where threads wait, with the lock of `state`, for a ready process or the end.
     changed: Condvar,
     resters: Mutex<Resters>,
     /// Where threads rest, with the lock of `resters`.
     roused: Condvar,
-    /// How many threads are awake, of those that ever wanted to rest.
+    /// How many of the threads that ever wanted to rest are awake.
     awake: AtomicU64,
     board: Board,
     ghost named: { board ≡ E.board },
 }
 
-// Written out, so that letting go of a monitor is a call, which is proved once, and not done field by field wherever
-// one ends.
+// Written out so that dropping a monitor is one call, proved once.
 impl<B: Body, E: EntryLedger, O: Ledger, H: Keeper> Drop for Monitor<B, E, O, H> {
     fn drop(self) {
         let Monitor {
@@ -76,8 +74,8 @@ impl<B: Body, E: EntryLedger, O: Ledger, H: Keeper> Drop for Monitor<B, E, O, H>
 }
 
 impl<B: Body, E: EntryLedger, O: Ledger, H: Keeper> Monitor<B, E, O, H> {
-    /// Makes the monitor of an opening, and a seat with all parts and empty shares. The types must name
-    /// the network, the board and the ledgers of the opening. Takes no memory.
+    /// Makes the monitor of an opening, and a seat with all parts and empty shares. The types must name the
+    /// opening's network, board and ledgers. Takes no memory.
     pub fn open(opening: Opening<B, H>) -> (Monitor<B, E, O, H>, Seat<E, O>)
         requires network { opening.machine.network ≡ E.net }
         requires board { opening.board ≡ E.board }
@@ -105,10 +103,9 @@ impl<B: Body, E: EntryLedger, O: Ledger, H: Keeper> Monitor<B, E, O, H> {
         (monitor, Seat::whole(PARTS, entry_share, over_share))
     }
 
-    /// Takes a process out as a task; or, if the run has ended, returns its end and notes in the seat
-    /// that it has met it (its share of overs is then 1), and wakes those that rest. A task leaves the
-    /// seat unchanged. Waits while no process is ready and the run goes on. If a task is dropped, its
-    /// process stays out for good.
+    /// Takes a ready process out as a task; or, if the run has ended, returns its end, sets the seat's share
+    /// of overs to 1, and wakes resting threads. Waits for one of these. A dropped task leaves its process
+    /// out for good.
     pub fn take<R: Wait>(&self, rt: &R, seat: &mut Seat<E, O>) -> Taken<B>
         ensures task { (t : Input) → result ≡ Taken.Task t → seat.new ≡ seat.old }
         ensures over { (e : EndV) → result ≡ Taken.Over e → seat.new ≡ record seat.old { overs = 1 } }
@@ -131,11 +128,10 @@ impl<B: Body, E: EntryLedger, O: Ledger, H: Keeper> Monitor<B, E, O, H> {
         unreachable!()
     }
 
-    /// Gives an answer to the machine, and shows what it appended on the board, in one holding of the
-    /// lock. The seat's share grows by the number of entries appended. The seat need not be the one
-    /// that took the task.
+    /// Commits an answer and publishes the new entries, holding the lock once. The share of the seat, which
+    /// need not be the one that took the task, grows by their number.
     ///
-    /// Errors: the machine did not ask for this answer. It is handed back, and the seat is unchanged.
+    /// Errors: the machine did not ask for this answer. Returns it, and leaves the seat unchanged.
     pub fn commit<R: Wait>(
         &self,
         rt: &R,
@@ -154,17 +150,16 @@ impl<B: Body, E: EntryLedger, O: Ledger, H: Keeper> Monitor<B, E, O, H> {
         answer
     }
 
-    /// Gives the answers of a hand to the machine, each as `commit` does, and then takes at most `most`
-    /// tasks as `take` does, in one holding of the lock. All tasks of the hand must have been called.
-    /// Waits only for the lock. A process that can go on after its answer goes out again at once, so that
-    /// its next task is in the hand, as far as the hand's share has room beside the processes that are ready.
+    /// Commits the answers of a hand, each like `commit`, and then takes at most `most` tasks, holding the
+    /// lock once. All tasks of the hand must have been called. Waits only for the lock. A process that can
+    /// continue goes out again at once, with its next task in the hand, if the hand's share has room beside
+    /// the ready processes.
     ///
-    /// The seat's share of entries grows by the number of entries that the answers appended. Afterwards
-    /// the hand has at least one task; or it has none, since no process was ready or `most` is 0; or
-    /// the run has ended, and the seat has met its end: its share of overs is 1.
+    /// The seat's share of entries grows by the number of new entries. Afterwards the hand has a task; or
+    /// none, because no process was ready or `most` is 0; or the run has ended, and the share of overs is 1.
     ///
-    /// Errors: the machine did not ask for an answer, which is handed back. The answers before it are
-    /// committed, and those after it are left in the hand.
+    /// Errors: the machine did not ask for an answer. Returns it. The answers before it are committed; those
+    /// after it stay in the hand.
     pub fn exchange<R: Wait>(
         &self,
         rt: &R,
@@ -198,14 +193,12 @@ impl<B: Body, E: EntryLedger, O: Ledger, H: Keeper> Monitor<B, E, O, H> {
         answer
     }
 
-    /// Asks ready processes where their bodies lie, one after the other, and takes their answers as `commit`
-    /// does, until `most` answers were taken, no process is ready or the run has ended; all in one holding of
-    /// the lock, in which the bodies are called. So it is for bodies that are quick, and that wait for
-    /// nobody: one that waited for another body could wait for ever.
+    /// Asks ready processes in place, and takes each answer like `commit`, until `most` answers were taken,
+    /// no process is ready or the run has ended. Calls the bodies under the lock, so they must be quick, and
+    /// must not wait for another body: that could be forever.
     ///
-    /// Each answer is taken with an outcome, as by `commit`, and the seat's share of entries grows by the
-    /// numbers of all of them together. `On` says how many answers were taken: at least one, and at most
-    /// `most`. If none was taken and the run has ended, the seat has met its end: its share of overs is 1.
+    /// The seat's share of entries grows by the number of new entries. `On` has the number of answers, 1 to
+    /// `most`. Without an answer, if the run has ended, the share of overs is 1.
     pub fn ask_in_place<R: Wait>(&self, rt: &R, seat: &mut Seat<E, O>, most: u64) -> Went
         ensures went { (outcomes : List OutcomeV) × (length outcomes ≡ answers_of result) × (seat.new.entries ≡ seat.old.entries + sum_by entries_appended outcomes) × WentRounds (family B.Kinds.Kinds) B.Kinds.admits E.net outcomes }
         ensures parts { seat.new.parts ≡ seat.old.parts }
@@ -231,15 +224,14 @@ impl<B: Body, E: EntryLedger, O: Ledger, H: Keeper> Monitor<B, E, O, H> {
         went
     }
 
-    /// Rests until the run has ended, or until one more thread is of use, and returns whether it rested.
-    /// A thread doesn't rest if the run has ended; nor, if it is idle, when a process is ready; nor, if it
-    /// is spare, when all others that ever wanted to rest do.
+    /// Rests until the run has ended or one more thread helps, and returns whether it rested. It does not
+    /// rest if the run has ended, if it is idle and a process is ready, or if it is spare and all others that
+    /// ever wanted to rest do.
     ///
-    /// One of the threads that rest is the lookout, or two if one was idle: it alone wakes after `limit`,
-    /// and then after times that double, and looks whether a process is ready though few answers were
-    /// committed since its last look (none for a while, if as many threads are awake as can run at once).
-    /// If so it goes on, and another becomes the lookout. They wait at another lock than the machine's.
-    /// No contract claims any of this.
+    /// One resting thread is the lookout, or two if one was idle. It alone wakes after `limit`, and then
+    /// after doubled times, to see whether a process is ready although few answers were committed since (none
+    /// for a while, if as many threads are awake as can run at once). If so, it stops resting, and another
+    /// becomes the lookout. Resting threads wait at another lock than the machine's. No contract covers this.
     pub fn rest<R: Wait + Clock>(
         &self,
         rt: &R,
@@ -249,7 +241,7 @@ impl<B: Body, E: EntryLedger, O: Ledger, H: Keeper> Monitor<B, E, O, H> {
     ) -> bool
         ensures { hand.new ≡ hand.old }
     {
-        // Under the lock of those that rest: else a spare one could leave work to this one and rest first.
+        // Under this lock: else a spare thread could leave work to this one and rest first.
         let mut resters = self.resters.lock(rt);
         if why == Rest::Idle && self.lock(rt).has_work() {
             return false;
@@ -277,7 +269,6 @@ impl<B: Body, E: EntryLedger, O: Ledger, H: Keeper> Monitor<B, E, O, H> {
         true
     }
 
-    // Sleeps until the run has ended or one more thread is of use.
     fn look_out<'a, R: Wait + Clock>(
         &'a self,
         rt: &R,
@@ -306,15 +297,14 @@ impl<B: Body, E: EntryLedger, O: Ledger, H: Keeper> Monitor<B, E, O, H> {
         unreachable!()
     }
 
-    // What a lookout sees.
     fn look_for_work<R: Wait + Clock>(&self, rt: &R) -> Sighting {
         let now = Instant::now(rt).ok();
         let guarded = self.lock(rt);
         Sighting::new(now, guarded.has_work(), guarded.answers())
     }
 
-    /// Wakes all workers that rest, and has none rest any more: for a run that has ended, or whose workers are to leave.
-    /// Waits only for the lock of those that rest.
+    /// Wakes all resting workers and lets none rest any more: for a run that has ended, or to have the
+    /// workers leave. Waits only for the resting threads' lock.
     pub fn rouse<R: Wait>(&self, rt: &R) {
         let mut resters = self.resters.lock(rt);
         let some = resters.note_end();
@@ -324,7 +314,7 @@ impl<B: Body, E: EntryLedger, O: Ledger, H: Keeper> Monitor<B, E, O, H> {
         }
     }
 
-    // Takes the lock. It is held for short times only, so a thread looks for a while before it sleeps.
+    // The lock is held only briefly, so the thread tries for a while before it sleeps.
     fn lock<R: Wait>(&self, rt: &R) -> MutexGuard<'_, Guarded<B, E, O, H>> {
         for _ in 0..LOOKS {
             if let Some(guarded) = self.state.try_lock() {
@@ -337,7 +327,7 @@ impl<B: Body, E: EntryLedger, O: Ledger, H: Keeper> Monitor<B, E, O, H> {
         self.state.lock(rt)
     }
 
-    // Wakes as many waiting threads as `wakes` says. Nothing is claimed about it.
+    // No contract covers waking.
     fn wake(&self, wakes: Wakes) {
         match wakes {
             Wakes::All => self.changed.notify_all(),
@@ -349,8 +339,8 @@ impl<B: Body, E: EntryLedger, O: Ledger, H: Keeper> Monitor<B, E, O, H> {
         }
     }
 
-    /// Makes a watcher that has seen the history so far, which is a run from the start of the network.
-    /// Fails if 64 watchers were made.
+    /// Makes a watcher that has seen the history so far, which is a run of the network. Fails if 64 watchers
+    /// were made.
     pub fn watch<R: Wait>(&self, rt: &R) -> Result<Watcher, WatchFault>
         ensures board { IfOk result (λ w. w.board ≡ E.board) }
         ensures run { IfOk result (λ w. (M : State) × IsRun (family B.Kinds.Kinds) E.net w.entries M) }
@@ -358,9 +348,8 @@ impl<B: Body, E: EntryLedger, O: Ledger, H: Keeper> Monitor<B, E, O, H> {
         self.state.lock(rt).watch(&self.board)
     }
 
-    /// Shows the watcher how far the history has come, and returns its numbers. The history goes on
-    /// from what this watcher saw before, and is the same if it had seen an end. The watcher must be
-    /// this monitor's. Takes no lock and no memory, and waits for nobody.
+    /// Updates this monitor's watcher to what is published, and returns its numbers. What it saw before is a
+    /// prefix of the history, and all of it if it saw an end. Takes no lock and no memory, and never waits.
     pub fn look(&self, watcher: &mut Watcher) -> Progress
         requires { watcher.old.board ≡ E.board }
         ensures board { watcher.new.board ≡ E.board }
@@ -373,11 +362,11 @@ impl<B: Body, E: EntryLedger, O: Ledger, H: Keeper> Monitor<B, E, O, H> {
 }
 
 impl<B: Body, E: EntryLedger, O: Ledger, H: Keeper> Monitor<B, E, O, H> {
-    /// Closes the monitor if the shares of these seats add up to the books, as they do if the seats
-    /// have all parts. The history is then a run with as many entries as the seats have receipts, and
-    /// the run has ended if one of the seats met its end. A process may still be out. Waits for nobody.
+    /// Closes the monitor if the seats' shares add up to the books, as they do if the seats have all parts.
+    /// The history is a run with as many entries as receipts, ended if a seat met its end. A process may
+    /// still be out. Never waits.
     ///
-    /// Errors: the shares do not add up to the books. The monitor and the seats are handed back.
+    /// Errors: the shares do not add up to the books. Returns the monitor and the seats.
     pub fn close(
         self,
         seats: Vec<Seat<E, O>>,
@@ -420,7 +409,6 @@ impl<B: Body, E: EntryLedger, O: Ledger, H: Keeper> Monitor<B, E, O, H> {
     }
 }
 
-/// Whether the shares of these seats add up to the books under the lock.
 fn are_booked<B: Body, E: EntryLedger, O: Ledger, H: Keeper>(
     guarded: &Guarded<B, E, O, H>,
     seats: &[Seat<E, O>],
@@ -432,7 +420,6 @@ fn are_booked<B: Body, E: EntryLedger, O: Ledger, H: Keeper>(
     entries == u128::from(len) && overs == u128::from(over_count)
 }
 
-/// Whether these seats have all parts.
 fn are_all<E: EntryLedger, O: Ledger>(seats: &[Seat<E, O>]) -> bool
     ensures { IsTrue result ↔ (sum_by (λ (s : Shares). s.parts) seats.now ≡ 65536) }
 {

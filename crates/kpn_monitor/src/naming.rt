@@ -2,9 +2,8 @@
 use std::marker::Brand;
 use std::sync::ledger::Ledger;
 
-/// The ledger of a monitor's entries, whose type also names the monitor's network and its board. A
-/// function that is generic over it is called with `std::marker::Brand`, and that call chooses the
-/// names.
+/// The ledger of a monitor's entries; the type also names the network and the board. Calling a generic
+/// function with `std::marker::Brand` chooses these names.
 pub trait EntryLedger: Ledger {
     ghost use Rattle.atomic_table.specs.Seated.{TableId};
     ghost use Rattle.kpn_model.specs.Network.{Network};

@@ -1,4 +1,4 @@
-//! A machine that is to be shared.
+//! A machine before it is shared.
 ghost use Rattle.std.specs.Prelude.{◌≡◌, [], MatchResult};
 ghost use Rattle.kpn_watch.specs.declared.progress.Phase.TheVariants.{Running};
 ghost use Rattle.kpn_machine.specs.MachineView.{IsFresh};
@@ -12,7 +12,7 @@ use std::marker::Model;
 use std::sync::ledger::Blank;
 
 /// A fresh machine, with a board and two ledgers that no type names yet. Contracts see the machine, the
-/// board, and the name and parts of each ledger. The machine's entries are kept by `H`.
+/// board, and the name and parts of each ledger. `H` keeps the entries.
 #[derive(Drop)]
 pub struct Opening<B: Body, H: Keeper = Wide> {
     machine: Machine<B, H>,
@@ -36,9 +36,9 @@ impl<B: Body, H: Keeper> Model for Opening<B, H> {
 }
 
 impl<B: Body, H: Keeper> Opening<B, H> {
-    /// Makes an opening of a fresh machine, with a new board and with ledgers of 65,536 parts.
+    /// Makes an opening of a fresh machine, with a new board and ledgers of 65,536 parts.
     ///
-    /// Errors: memory was refused. The machine is handed back unchanged.
+    /// Errors: out of memory. Returns the machine unchanged.
     pub fn new(alloc: Global, machine: Machine<B, H>) -> Result<Opening<B, H>, Machine<B, H>>
         requires { IsFresh machine }
         ensures { MatchResult result (λ o. (o.machine ≡ machine) × (o.entries.parts ≡ 65536) × (o.overs.parts ≡ 65536)) (λ m. m ≡ machine) }
@@ -94,7 +94,7 @@ impl<B: Body, H: Keeper> Opening<B, H> {
     }
 }
 
-/// What an opening is made of.
+/// The parts of an opening.
 #[derive(Drop)]
 pub(crate) struct OpeningParts<B: Body, H: Keeper> {
     pub(crate) machine: Machine<B, H>,

@@ -1,4 +1,4 @@
-//! The places of the tasks of a hand.
+//! The places of a hand's tasks.
 ghost use Rattle.std.specs.Prelude.{◌≡◌, ◌+◌, ◌<◌, ◌≤◌, ℕ, List, [], ◌∷◌, ◌++◌, Some, true, false, length, take, drop, slice_get, slice_index_or, vec_capacity, IfOk, IfNone, IfSome, IsTrue, ◌↔◌};
 ghost use Rattle.kpn_model.specs.Families.{family};
 ghost use Rattle.kpn_body.specs.Input.{Input};
@@ -13,14 +13,13 @@ use kpn_state::Keeper;
 use std::alloc::{AllocError, Global};
 use std::marker::Model;
 
-/// The greatest number of tasks in a hand.
 pub(crate) const MOST_TASKS: usize = 64;
 
-/// The tasks of a hand, each in a place of its own, and beside them the answers of those that were called.
+/// The tasks of a hand, and the answers of those called. `new` takes all memory.
 ///
-/// Answers are given in the order of their tasks. While they are, the first places hold tasks that went out
-/// again, then come free places, and then tasks whose answers were not given; a task that goes out again stays
-/// in its place, unless a place before it is free. All memory is taken at the start.
+/// Answers are given in order. Meanwhile the first places hold tasks that went out again; then come free
+/// places, then tasks with answers not given yet. A task that goes out again stays in its place unless an
+/// earlier one is free.
 #[derive(Drop)]
 pub(crate) struct Places<B: Body> {
     places: Vec<Option<Task<B>>>,
@@ -44,7 +43,7 @@ impl<B: Body> Model for Places<B> {
 }
 
 impl<B: Body> Places<B> {
-    /// Places without a task. Fails if memory was refused.
+    /// Makes places without tasks. Errors: out of memory.
     pub(crate) fn new(alloc: Global) -> Result<Places<B>, AllocError>
         ensures { IfOk result (λ p. p ≡ record { again = []; tasks = []; called = 0; given = 0; outcomes = [] }) }
     {
@@ -57,7 +56,7 @@ impl<B: Body> Places<B> {
         })
     }
 
-    /// Returns how many tasks there are whose answers were not given.
+    /// Returns how many tasks have answers not given yet.
     #[inline(always)]
     pub(crate) fn len(&self) -> usize
         ensures len { result ≡ length self.now.tasks }
@@ -67,8 +66,7 @@ impl<B: Body> Places<B> {
         self.places.len() - self.given
     }
 
-    /// Calls the first task that was not called yet, and returns the number of its process. `None` exactly if
-    /// all were called, and nothing changes then.
+    /// Calls the first task not called yet, and returns the number of its process.
     #[inline(always)]
     pub(crate) fn call(&mut self) -> Option<usize>
         ensures none { IfNone result ((self.old.called ≡ length self.old.tasks) × (self.new ≡ self.old)) }
@@ -87,14 +85,12 @@ impl<B: Body> Places<B> {
         Some(process)
     }
 
-    /// Returns the outcomes of the answers that were given last, in the order of their tasks.
     pub(crate) fn outcomes(&self) -> &[Outcome]
         ensures { result.now ≡ self.now.outcomes }
     {
         self.outcomes.as_slice()
     }
 
-    /// Forgets the outcomes of earlier answers.
     pub(crate) fn forget(&mut self)
         ensures forgotten { self.new ≡ record self.old { outcomes = [] } }
         ensures few { length self.old.tasks ≤ 64 }
@@ -103,7 +99,7 @@ impl<B: Body> Places<B> {
         self.outcomes.clear();
     }
 
-    /// Appends a task. No answer may have been given since the places were settled.
+    /// Appends a task. No answer may have been given since the last `settle`.
     #[inline(always)]
     pub(crate) fn put(&mut self, task: Task<B>)
         requires settled { self.old.given ≡ 0 }
@@ -113,7 +109,6 @@ impl<B: Body> Places<B> {
         self.places.push_reserved(Some(task));
     }
 
-    /// Whether a task was called whose answer was not given.
     #[inline(always)]
     pub(crate) fn has_answer(&self) -> bool
         ensures { IsTrue result ↔ (0 < self.now.called) }
@@ -121,7 +116,6 @@ impl<B: Body> Places<B> {
         self.given < self.answers.len()
     }
 
-    /// Returns how many tasks went out again.
     #[inline(always)]
     pub(crate) fn kept(&self) -> usize
         ensures { result ≡ length self.now.again }
@@ -129,7 +123,6 @@ impl<B: Body> Places<B> {
         self.kept
     }
 
-    /// Returns the first task whose answer was not given.
     #[inline(always)]
     pub(crate) fn first(&self) -> &Task<B>
         requires { 0 < self.now.called }
@@ -141,7 +134,6 @@ impl<B: Body> Places<B> {
         task
     }
 
-    /// Removes the first task, which was called, and returns it with its answer.
     #[inline(always)]
     pub(crate) fn leave(&mut self) -> Finished<B>
         requires { 0 < self.old.called }
@@ -160,9 +152,8 @@ impl<B: Body> Places<B> {
 }
 
 impl<B: Body> Places<B> {
-    /// Gives the first answer to the machine, which must have sent out its task, and keeps the task as the
-    /// process's next one, if the process can go out again at once: if the answer is a read or a write that can
-    /// be done, and the run goes on. False if it is not so, and nothing changes then.
+    /// Commits the first answer and keeps the task as the process's next one, if it can go out again at once:
+    /// its read or write can be done, and the run continues. Otherwise returns false.
     #[inline(always)]
     pub(crate) fn stay<H: Keeper>(&mut self, machine: &mut Machine<B, H>) -> bool
         requires called { 0 < self.old.called }
@@ -185,7 +176,6 @@ impl<B: Body> Places<B> {
         true
     }
 
-    /// Keeps the outcome of an answer.
     #[inline(always)]
     pub(crate) fn note(&mut self, outcome: Outcome)
         requires { length self.old.outcomes < 64 }
@@ -194,7 +184,7 @@ impl<B: Body> Places<B> {
         self.outcomes.push_reserved(outcome);
     }
 
-    /// Once all answers were given, the tasks that went out again are those to be called next.
+    /// Makes the tasks that went out again the next to call.
     pub(crate) fn settle(&mut self)
         requires { self.old.tasks ≡ [] }
         ensures { self.new ≡ record { again = []; tasks = self.old.again; called = 0; given = 0; outcomes = self.old.outcomes } }
@@ -205,7 +195,6 @@ impl<B: Body> Places<B> {
         self.kept = 0;
     }
 
-    /// Removes the last task that went out again and returns it; `None` if there is none.
     pub(crate) fn withdraw(&mut self) -> Option<Task<B>>
         ensures none { IfNone result ((self.old.again ≡ []) × (self.new ≡ self.old)) }
         ensures some { IfSome result (λ _. self.new ≡ record self.old { again = self.new.again }) }
@@ -218,7 +207,7 @@ impl<B: Body> Places<B> {
         self.places[self.kept].take()
     }
 
-    /// Removes the free places before the tasks whose answers were not given. None may have gone out again.
+    /// Removes the free places before the tasks. None may have gone out again.
     pub(crate) fn close_up(&mut self)
         requires { self.old.again ≡ [] }
         ensures { self.new ≡ record self.old { given = 0 } }
@@ -234,7 +223,6 @@ impl<B: Body> Places<B> {
     }
 }
 
-/// Moves what lies in a place to one before it, unless that is the same, and what lay there back.
 #[inline(always)]
 fn move_up<T>(places: &mut Vec<T>, to: usize, from: usize)
     requires order { to ≤ from }

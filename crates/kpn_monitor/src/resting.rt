@@ -1,22 +1,19 @@
-//! Which threads rest, and when.
-//!
-//! No contract depends on this.
+//! Which threads rest, and when. No contract depends on this.
 
 use std::time::{Duration, Instant};
 
-/// A lookout's rests double up to this, in microseconds: to the shorter one if answers come slowly though
-/// there is a processor for one more thread.
+/// A lookout's rests double up to this many microseconds, or up to `ALERT_REST` if answers come slowly
+/// although a processor is free.
 const LONGEST_REST: u64 = 2_000;
 
 const ALERT_REST: u64 = 200;
 
-/// If a process is ready and answers are committed less often than once in so many nanoseconds, one more
-/// thread is of use: several threads commit no more often than that, since what a commit touches then
-/// comes from another processor's cache.
+/// With a process ready, one more thread helps if commits are further apart than this, in nanoseconds.
+/// Several threads commit no more often, since a commit's memory then comes from another processor's cache.
 const SLOW: u64 = 300;
 
-/// If no answer is committed for so many nanoseconds though a process is ready, one more thread is of
-/// use even if there is no processor for it: those that are awake may wait for it.
+/// With a process ready, one more thread helps even without a free processor if nothing was committed for
+/// this many nanoseconds: the threads awake may be waiting for it.
 const STALL: u128 = 1_000_000;
 
 /// Why a thread rests.
@@ -24,12 +21,11 @@ const STALL: u128 = 1_000_000;
 pub enum Rest {
     /// It found nothing to do.
     Idle,
-    /// The others do better without it.
+    /// The others are faster without it.
     Spare,
 }
 
-/// How many threads ever wanted to rest, how many rest now, how many of these are lookouts for the
-/// others, and whether the run has ended.
+/// How many threads have ever wanted to rest, rest now, and are lookouts.
 #[derive(Drop)]
 pub(crate) struct Resters {
     known: usize,
@@ -39,7 +35,6 @@ pub(crate) struct Resters {
 }
 
 impl Resters {
-    /// Nobody rests.
     pub(crate) fn new() -> Resters {
         Resters {
             known: 0,
@@ -49,8 +44,8 @@ impl Resters {
         }
     }
 
-    /// Counts a thread that wants to rest, perhaps for the first time. Returns false if it should not:
-    /// the run has ended, or it is spare and all others rest.
+    /// Counts a thread that wants to rest. Returns false if it should not: the run has ended, or it is spare
+    /// and all others rest.
     pub(crate) fn begin(&mut self, is_new: bool, why: Rest) -> bool {
         if is_new {
             self.known = self.known.saturating_add(1);
@@ -63,8 +58,8 @@ impl Resters {
         true
     }
 
-    /// Whether a thread that rests for this reason should be a lookout: there is none, or it is idle and
-    /// there is one, and the run has not ended.
+    /// Whether a resting thread should be a lookout: the run has not ended, and there is none, or at most one
+    /// if it is idle.
     pub(crate) fn want_lookout(&self, why: Rest) -> bool {
         let others = match why {
             Rest::Idle => 1,
@@ -73,41 +68,37 @@ impl Resters {
         self.looking_out <= others && !self.over
     }
 
-    /// A thread that rests becomes the lookout.
     pub(crate) fn begin_looking_out(&mut self) {
         self.looking_out = self.looking_out.saturating_add(1);
     }
 
-    /// The lookout no longer is one.
     pub(crate) fn end_looking_out(&mut self) {
         self.looking_out = self.looking_out.saturating_sub(1);
     }
 
-    /// How many threads are awake, of those that ever wanted to rest.
+    /// Returns how many of the threads that ever wanted to rest are awake.
     pub(crate) fn awake(&self) -> u64 {
         self.known.saturating_sub(self.resting) as u64
     }
 
-    /// A thread no longer rests. Returns whether another that rests should be the lookout in its place.
+    /// Counts a thread that stops resting. Returns whether another should become the lookout.
     pub(crate) fn end(&mut self) -> bool {
         self.resting = self.resting.saturating_sub(1);
         self.resting > 0 && self.want_lookout(Rest::Spare)
     }
 
-    /// Whether the run has ended.
     pub(crate) fn is_over(&self) -> bool {
         self.over
     }
 
-    /// Notes that the run has ended. Returns whether some thread still rests.
+    /// Returns whether a thread still rests.
     pub(crate) fn note_end(&mut self) -> bool {
         self.over = true;
         self.resting > 0
     }
 }
 
-/// What a lookout sees at one time: whether there is something to do, and how many answers were
-/// committed so far.
+/// What a lookout sees.
 #[derive(Clone, Copy)]
 pub(crate) struct Sighting {
     time: Option<Instant>,
@@ -124,8 +115,8 @@ impl Sighting {
         }
     }
 
-    /// Whether one more thread is of use: there is something to do, and few answers were committed since
-    /// an earlier look; none for a long time, if there is no processor for it.
+    /// Whether one more thread helps: there is work, and few answers since `earlier`, or, without a free
+    /// processor, none for long.
     pub(crate) fn shows_want(&self, earlier: &Sighting, has_processor: bool) -> bool {
         if !self.has_work {
             return false;
@@ -136,18 +127,16 @@ impl Sighting {
         self.is_same(earlier) && self.nanos_since(earlier) > STALL
     }
 
-    /// Whether no answer was committed since an earlier look.
     pub(crate) fn is_same(&self, earlier: &Sighting) -> bool {
         self.answers == earlier.answers
     }
 
-    /// Whether few answers were committed since an earlier look.
     pub(crate) fn is_slow(&self, earlier: &Sighting) -> bool {
         let answers = self.answers.saturating_sub(earlier.answers);
         self.nanos_since(earlier) > u128::from(answers.saturating_mul(SLOW))
     }
 
-    /// The nanoseconds since an earlier look; very many if the clock could not be read.
+    /// Returns `u128::MAX` if the clock could not be read.
     fn nanos_since(&self, earlier: &Sighting) -> u128 {
         match (self.time, earlier.time) {
             (Some(now), Some(then)) => now.saturating_duration_since(then).as_nanos(),
@@ -156,7 +145,6 @@ impl Sighting {
     }
 }
 
-/// How long a lookout rests after it has rested for `limit`.
 pub(crate) fn next_limit(limit: Duration, is_alert: bool) -> Duration {
     let longest = if is_alert { ALERT_REST } else { LONGEST_REST };
     limit.saturating_mul(2).min(Duration::from_micros(longest))

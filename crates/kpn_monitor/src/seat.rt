@@ -1,4 +1,4 @@
-//! Seats: what each worker has of the ledgers.
+//! A worker's share of the ledgers.
 ghost use Rattle.std.specs.Prelude.{◌≡◌, ◌+◌, ◌-◌, ◌<◌, ◌≤◌, ◌^◌, [], true, false, MatchOption, IfNone, IfSome};
 ghost use Rattle.std.specs.List.{sum_by};
 ghost use Rattle.kpn_monitor.specs.Views.{Shares};
@@ -7,8 +7,8 @@ use crate::naming::EntryLedger;
 use std::marker::Model;
 use std::sync::ledger::{Book, Ledger, Share};
 
-/// A share of each ledger, of entries and of overs, and some of the ledgers' 65,536 parts. It can't be
-/// copied. Contracts see the three numbers.
+/// A share of each ledger (of entries and of overs), and some of their 65,536 parts. It can't be copied.
+/// Contracts see these three numbers.
 #[derive(Drop)]
 pub struct Seat<E: EntryLedger, O: Ledger> {
     parts: u32,
@@ -30,7 +30,6 @@ impl<E: EntryLedger, O: Ledger> Model for Seat<E, O> {
 }
 
 impl<E: EntryLedger, O: Ledger> Seat<E, O> {
-    /// The seat with all parts.
     pub(crate) fn whole(parts: u32, entry_share: Share<E>, over_share: Share<O>) -> Seat<E, O>
         requires { (0 < parts) × (entry_share.parts ≡ parts) × (entry_share.amount ≡ 0) × (over_share.parts ≡ parts) × (over_share.amount ≡ 0) }
         ensures { result ≡ record { parts = parts; entries = 0; overs = 0 } }
@@ -44,8 +43,8 @@ impl<E: EntryLedger, O: Ledger> Seat<E, O> {
         }
     }
 
-    /// Splits off a seat of one part, with empty shares. `None` exactly if only one part is left, and
-    /// nothing changes then. Takes no lock.
+    /// Splits off a seat of one part with empty shares; returns `None` exactly if only one part is left.
+    /// Takes no lock.
     pub fn split(&mut self) -> Option<Seat<E, O>>
         ensures { MatchOption result ((self.old.parts ≡ 1) × (self.new ≡ self.old)) (λ s. (s ≡ record { parts = 1; entries = 0; overs = 0 }) × (1 < self.old.parts) × (self.new ≡ record self.old { parts = self.old.parts - 1 })) }
     {
@@ -58,14 +57,12 @@ impl<E: EntryLedger, O: Ledger> Seat<E, O> {
         Some(Seat::whole(1, entry_share, over_share))
     }
 
-    // The parts, the entries and the overs.
     fn numbers(&self) -> (u32, u64, u64)
         ensures { (result.0 ≡ self.now.parts) × (result.1 ≡ self.now.entries) × (result.2 ≡ self.now.overs) }
     {
         (self.parts, self.entries, self.overs)
     }
 
-    // The shares alone.
     fn into_shares(self) -> (Share<E>, Share<O>)
         ensures entries { (result.0.parts ≡ self.parts) × (result.0.amount ≡ self.entries) }
         ensures overs { (result.1.parts ≡ self.parts) × (result.1.amount ≡ self.overs) }
@@ -80,7 +77,6 @@ impl<E: EntryLedger, O: Ledger> Seat<E, O> {
         (entry_share, over_share)
     }
 
-    /// Adds `count` entries to the seat's share and to the book.
     pub(crate) fn add_entries(&mut self, book: &mut Book<E>, count: u64)
         requires { book.old.total + count < 2 ^ 64 }
         ensures seat { self.new ≡ record self.old { entries = self.old.entries + count } }
@@ -91,8 +87,7 @@ impl<E: EntryLedger, O: Ledger> Seat<E, O> {
         self.entries += count;
     }
 
-    /// Books that the seat has met an end, once for each seat. False if the book is full, and nothing
-    /// changes then.
+    /// Books that the seat has met the end, once per seat. Returns false if the book is full.
     pub(crate) fn meet_end(&mut self, book: &mut Book<O>, overs: &mut u64) -> bool
         requires { book.old.total ≡ overs.old }
         ensures book { book.new.total ≡ overs.new }
@@ -112,7 +107,6 @@ impl<E: EntryLedger, O: Ledger> Seat<E, O> {
     }
 }
 
-// The parts, the entries and the overs of all seats.
 pub(crate) fn totals_of<E: EntryLedger, O: Ledger>(seats: &[Seat<E, O>]) -> (u128, u128, u128)
     ensures parts { result.0 ≡ sum_by (λ (s : Shares). s.parts) seats.now }
     ensures entries { result.1 ≡ sum_by (λ (s : Shares). s.entries) seats.now }
@@ -128,7 +122,6 @@ pub(crate) fn totals_of<E: EntryLedger, O: Ledger>(seats: &[Seat<E, O>]) -> (u12
     (parts, entries, overs)
 }
 
-// The shares of all seats added up; `None` if there is no seat.
 pub(crate) fn merge<E: EntryLedger, O: Ledger>(
     mut seats: Vec<Seat<E, O>>,
 ) -> Option<(Share<E>, Share<O>)>

@@ -1,4 +1,4 @@
--- What a watched run says of its end, and what is reported of it.
+-- The end and the report of a watched run.
 use Rattle.std.specs.Prelude.{◌≡◌, ℕ, List, Option, Some}
 use Rattle.kpn_model.specs.declared.token.Token.{Token}
 use Rattle.kpn_model.specs.declared.kinds.Card.{Card}
@@ -12,17 +12,17 @@ use Rattle.kpn_monitor.specs.Kept.{IsClosed}
 use Rattle.kpn_run.specs.Runs.{SparesBudget, KeepsLaws}
 use Rattle.kpn_run.specs.Reports.{IsEveryRuns, IsOutcome, TellsLeastSolution}
 
--- a run that ended did not end because of its budget, if some run that is over has fewer entries
+-- a run that ended did not end because of its budget if some run that is over has fewer entries
 abbrev pub EndSparesBudget : Family → Network → Option End → Type 0
 EndSparesBudget kinds net end = (cause : End) → end ≡ Some cause → SparesBudget kinds net cause
 
--- all that is promised of a run of this network that was watched, over or not
+-- all that is promised of a watched run of this network, over or not
 pub record IsWatchedRun (kinds : Family) (admits : Card → List ℕ → Option Token → Type 0) (net : Network) (a : ClosedView) : Type 0 where
   pub closed : IsClosed kinds admits net a
   pub budget : EndSparesBudget kinds net a.machine.end
   pub laws : KeepsLaws kinds net a.machine
 
--- this end and this detail are the report of what the machine left behind, which ended for this cause; and so of every run of its
+-- this end and detail are the report of a machine that ended for this cause, and so of every run of its
 -- network that is over
 pub record IsReportOf (kinds : Family) (s : MachineView) (cause end : End) (detail : Option Detail) : Type 0 where
   pub end_is : end ≡ cause

@@ -1,6 +1,4 @@
-//! How the observer and the workers of a run tell each other to stop.
-//!
-//! No contract depends on this.
+//! How the observer and the workers stop each other. No contract depends on this.
 ghost use Rattle.std.specs.Prelude.{true};
 
 use kpn_run::stop_signal::StopSignal;
@@ -9,8 +7,8 @@ use std::sync::atomic::{AtomicBool, Ordering};
 use std::sync::{Condvar, Mutex, Wait};
 use std::time::Duration;
 
-/// Whether the workers are done, for which the observer waits; and whether they are to stop, for which
-/// nobody waits.
+/// Whether the workers are done, for which the observer waits, and whether they should stop, for which nobody
+/// waits.
 #[derive(Drop)]
 pub(crate) struct Bell {
     is_done: Mutex<bool>,
@@ -27,7 +25,7 @@ impl Bell {
         }
     }
 
-    /// Waits until the workers are done, for so long at most. Returns whether they are.
+    /// Waits at most `period` for the workers to be done. Returns whether they are.
     pub(crate) fn wait<R: Wait + Clock>(&self, rt: &R, period: Duration) -> bool {
         let is_done = self.is_done.lock(rt);
         if *is_done {
@@ -37,7 +35,7 @@ impl Bell {
         *is_done
     }
 
-    /// The workers are done.
+    /// Notes that the workers are done.
     pub(crate) fn ring<R: Wait>(&self, rt: &R) {
         let mut is_done = self.is_done.lock(rt);
         *is_done = true;
@@ -45,7 +43,7 @@ impl Bell {
         self.rung.notify_all();
     }
 
-    /// The workers are to stop.
+    /// Notes that the workers should stop.
     pub(crate) fn stop(&self) {
         self.stops.store(true, Ordering::SeqCst);
     }

@@ -1,4 +1,4 @@
-//! Runs by threads of a caller's own.
+//! Runs by threads of the caller's own.
 ghost use Rattle.std.specs.Prelude.{◌≡◌, ◌≢◌, ◌+◌, ◌<◌, ◌≤◌, [], length, map, vec_capacity, Ok, IfOk, IfErr, IfNone, MatchResult, OnOk};
 ghost use Rattle.std.specs.List.{sum_by};
 ghost use Rattle.kpn_model.specs.Families.{family};
@@ -28,7 +28,7 @@ use std::sync::Wait;
 use std::sync::ledger::Ledger;
 use std::thread::{Threads, for_each_mut};
 
-/// A seat of a run by a crew: one part of each ledger of its monitor. A crew can't lose it, since it is lent.
+/// A seat of a run by a crew: one part of each ledger of its monitor, lent, so that a crew can't lose it.
 #[derive(Drop)]
 pub struct CrewSeat<E: EntryLedger, O: Ledger> {
     seat: Seat<E, O>,
@@ -60,8 +60,8 @@ impl<E: EntryLedger, O: Ledger> CrewSeat<E, O> {
         seat
     }
 
-    /// Takes a process out as a task, or returns the end of the run (`Monitor::take`). Waits while no
-    /// process is ready and the run goes on. If a task is dropped, its process stays out for good.
+    /// Takes a process out as a task, or returns the end of the run (`Monitor::take`), whichever comes first.
+    /// A dropped task leaves its process out for good.
     ///
     /// ```text
     /// for _ in self.rt.forever() {
@@ -83,9 +83,9 @@ impl<E: EntryLedger, O: Ledger> CrewSeat<E, O> {
         monitor.take(rt, &mut self.seat)
     }
 
-    /// Gives an answer to the machine (`Monitor::commit`). The seat need not be the one that took the task.
+    /// Commits an answer (`Monitor::commit`). The seat need not be the one that took the task.
     ///
-    /// Errors: the machine did not ask for this answer. It is handed back, and the seat is unchanged.
+    /// Errors: the machine did not ask for this answer. Returns it, and leaves the seat unchanged.
     ///
     /// ```text
     /// match seat.commit(self.rt, monitor, task.call()) {
@@ -106,9 +106,9 @@ impl<E: EntryLedger, O: Ledger> CrewSeat<E, O> {
         monitor.commit(rt, finished, &mut self.seat)
     }
 
-    /// Takes a task, calls it, asks the gate and commits the answer, again and again, until the run has ended
-    /// or an answer is refused. Returns the refused answer; if there is none, the seat has met the end. It may
-    /// wait for other threads.
+    /// Takes a task, calls it, calls the gate and commits the answer, until the run has ended or an answer is
+    /// refused. Returns the refused answer; if there is none, the seat has met the end. May wait for other
+    /// threads.
     ///
     /// ```text
     /// let refused: Option<Finished<CardBody<Standard>>> = seat.work(self.rt, monitor, &Open);
@@ -125,8 +125,8 @@ impl<E: EntryLedger, O: Ledger> CrewSeat<E, O> {
     }
 }
 
-/// What threads of a caller's own do at the run of a network. What they share is a monitor, whose type names
-/// the run (`E` and `O`): so it is a method for all names.
+/// What the caller's own threads do. The type of their monitor names the run (`E` and `O`), so the method is
+/// generic over the names.
 ///
 /// ```text
 /// impl<'a, R: Wait + Eprint + Sync> Crew<CardBody<Standard>> for Counting<'a, R> {
@@ -148,7 +148,7 @@ impl<E: EntryLedger, O: Ledger> CrewSeat<E, O> {
 /// }
 /// ```
 pub trait Crew<B: Body>: Sync {
-    /// Called once in each thread, with its seat. It returns at the end of the run, or whenever it likes.
+    /// Called once in each thread, with its seat. May return before the end of the run.
     fn work<E: EntryLedger, O: Ledger>(
         &self,
         monitor: &Monitor<B, E, O>,
@@ -156,21 +156,15 @@ pub trait Crew<B: Body>: Sync {
     );
 }
 
-/// Runs a network from its start by threads that do what the caller's crew says, with a body for each process
-/// in order: each thread has the monitor of the run and one seat. The calling thread has one of the seats; if a
-/// thread can't be started, the calling thread does its work.
+/// Runs a network from its start with `seats` threads that do what `crew` says, and a body for each process,
+/// in order. The calling thread is one, and does the work of each that can't be started.
 ///
-/// The crew may take tasks, ask bodies and commit answers as it likes, pause, and leave before the end. Whatever
-/// it does, all that is known of a watched run is known of its history (`run_watched`), by the same clauses: it is a run of the sequential machine, an end, if there is one, is justified (`closed`), after
-/// each prefix no channel holds more tokens than its capacity (`within`), and its streams and those of any
-/// run from any starting capacities are prefix-comparable (`comparable`; Kahn 1974). If capacity b suffices
-/// for the network, no channel of capacity b or more grows in it (`room`; Parks 1995); its streams are below
-/// every solution of the network's equations (`streams`). If it has ended, it has not ended by `Budget` if
-/// some run that is over has fewer entries than the budget (`budget`).
+/// The crew may take tasks, ask bodies and commit answers in any way, pause, and leave early. The history
+/// keeps all promises of [`run_watched`](crate::run_watched) (Kahn 1974, Parks 1995).
 ///
-/// Errors: the bodies are not one for each process, with its card (`Bodies`, `Card`), and network and bodies
-/// are handed back unchanged; or memory was refused (`Memory`), and the network and bodies of the right cards
-/// are handed back. Nothing has run then.
+/// Errors: the bodies are not one for each process, with its card (`Bodies`, `Card`): returns the network and
+/// bodies unchanged. Out of memory (`Memory`): returns the network and bodies with the same cards. Nothing
+/// has run.
 ///
 /// ```text
 /// let Ok(run) = run_by_crew(rt, alloc, net, bodies, 3, &crew) else {
@@ -201,7 +195,6 @@ pub fn run_by_crew<B: Body, R: Threads + Sync, C: Crew<B>>(
     run_opened(rt, alloc, opening, seats, crew)
 }
 
-/// Runs a network by a crew, from the opening of its monitor.
 fn run_opened<B: Body, R: Threads + Sync, C: Crew<B>>(
     rt: &R,
     alloc: Global,
@@ -219,7 +212,7 @@ fn run_opened<B: Body, R: Threads + Sync, C: Crew<B>>(
     Ok(ran)
 }
 
-/// Runs a network by a crew, from the opening of its monitor, with ledgers that are named.
+/// Generic over the ledgers, so that a call with `Brand` names them.
 fn run_named<
     B: Body,
     E: EntryLedger + Send + Sync,
@@ -255,7 +248,6 @@ fn run_named<
     Ok(run_seated(rt, monitor, rest, crewed, all, crew))
 }
 
-/// Splits seats of one part off a seat.
 fn split_all<E: EntryLedger, O: Ledger>(
     rest: &mut Seat<E, O>,
     count: usize,
@@ -270,7 +262,7 @@ fn split_all<E: EntryLedger, O: Ledger>(
     }
 }
 
-// Splits a seat of one part off a seat, unless this has only one part left.
+// Does nothing if only one part is left.
 fn split_one<E: EntryLedger, O: Ledger>(rest: &mut Seat<E, O>, seats: &mut Vec<CrewSeat<E, O>>)
     requires room { length seats.old.items < vec_capacity seats.old }
     ensures parts { length seats.new.items + rest.new.parts ≡ length seats.old.items + rest.old.parts }
@@ -282,7 +274,6 @@ fn split_one<E: EntryLedger, O: Ledger>(rest: &mut Seat<E, O>, seats: &mut Vec<C
     }
 }
 
-/// Lets the crew work, and closes with all seats.
 fn run_seated<
     B: Body,
     E: EntryLedger + Send + Sync,
@@ -310,7 +301,6 @@ fn run_seated<
     }
 }
 
-/// Has the crew work at each seat, in the calling thread and in others.
 fn work_all<
     B: Body,
     E: EntryLedger + Send + Sync,
@@ -323,7 +313,6 @@ fn work_all<
     work_each(rt, monitor, crewed.as_mut_slice(), crew);
 }
 
-// Works at each slot of a slice.
 fn work_each<
     B: Body,
     E: EntryLedger + Send + Sync,
@@ -335,7 +324,7 @@ fn work_each<
     for_each_mut(rt, seats, threads, &|_, seat| crew.work(monitor, seat));
 }
 
-/// All seats of a run: the one that has the parts left, and those of the crew.
+/// Adds the seat with the remaining parts, and the crew's.
 fn gather<E: EntryLedger, O: Ledger>(
     rest: Seat<E, O>,
     crewed: Vec<CrewSeat<E, O>>,
@@ -348,7 +337,6 @@ fn gather<E: EntryLedger, O: Ledger>(
     leave_all(crewed, seats);
 }
 
-/// Takes the seats back from the crew.
 fn leave_all<E: EntryLedger, O: Ledger>(
     mut crewed: Vec<CrewSeat<E, O>>,
     seats: &mut Vec<Seat<E, O>>,

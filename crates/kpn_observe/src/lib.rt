@@ -1,5 +1,4 @@
-//! Runs that are looked at while they go on, and that may be stopped: `run_watched` is `run` of
-//! `kpn_run` with an observer.
+//! Runs that an observer watches and may stop: `run_watched` is `kpn_run::run` with an observer.
 //!
 //! ```text
 //! impl<'a, R: Eprint + Sync> Observer for Ticker<'a, R> {
@@ -18,7 +17,7 @@
 //! }
 //! ```
 //!
-//! `run_by_crew` runs a network by threads of the caller's own.
+//! `run_by_crew` runs a network with threads of the caller's own.
 #![tactic(auto)]
 
 mod bell;

@@ -1,4 +1,4 @@
-//! Who looks at a run.
+//! Who watches a run.
 ghost use Rattle.std.specs.Prelude.{◌≡◌};
 ghost use Rattle.kpn_watch.specs.Shown.{shows};
 
@@ -12,17 +12,16 @@ use std::sync::Wait;
 use std::sync::ledger::Ledger;
 use std::time::Duration;
 
-/// Whether a run is to go on.
+/// Whether a run should continue.
 #[derive(Clone, Copy, Debug, PartialEq, Eq)]
 pub enum Wish {
     GoOn,
     Stop,
 }
 
-/// Who is shown how far a run has come while it goes on, and may stop it. It is first called by the calling
-/// thread, before any worker has started; then in a thread of its own; and at last once more when the
-/// workers are done. If that thread can't be started, it is called only at the start and at the end. It may
-/// wait; the workers don't wait for it, but the run returns only after it.
+/// Sees how far a run is, and may stop it. Called by the calling thread before any worker starts, then in its
+/// own thread (unless that can't be started), and once more when the workers are done. The workers don't wait
+/// for it, but the run returns after it.
 ///
 /// ```text
 /// impl<'a, R: Clock + Sync> Observer for Deadline<'a, R> {
@@ -35,12 +34,12 @@ pub enum Wish {
 /// }
 /// ```
 pub trait Observer: Sync {
-    /// Called with how many entries the history has, how many of them are growths, and whether the run
-    /// has ended. If it wishes to stop, the workers finish what they hold and take nothing more.
+    /// Called with the numbers of entries and growths, and whether the run has ended. On `Stop` the workers
+    /// finish what they hold and take nothing more.
     fn see(&self, progress: Progress) -> Wish;
 }
 
-/// Looks once in each period, and once more when the workers are done.
+/// Calls the observer once per period, and once more when the workers are done.
 pub(crate) fn observe<B: Body, H: Keeper, E: EntryLedger, O: Ledger, R: Wait + Clock, V: Observer>(
     rt: &R,
     monitor: &Monitor<B, E, O, H>,
@@ -65,7 +64,6 @@ pub(crate) fn observe<B: Body, H: Keeper, E: EntryLedger, O: Ledger, R: Wait + C
     unreachable!()
 }
 
-/// How far the history has come. Takes no lock.
 fn look<B: Body, H: Keeper, E: EntryLedger, O: Ledger>(
     monitor: &Monitor<B, E, O, H>,
     watcher: &mut Watcher,

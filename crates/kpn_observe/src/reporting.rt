@@ -1,4 +1,4 @@
-//! The report of what a machine left behind, whoever ran it.
+//! The report of a run by any threads.
 ghost use Rattle.std.specs.Prelude.{◌≡◌, Some, is_some, IfOk, IfSome};
 ghost use Rattle.kpn_model.specs.declared.history.End.{End as EndV};
 ghost use Rattle.kpn_model.specs.Families.{family};
@@ -12,15 +12,13 @@ use kpn_model::{End, Kinds};
 use kpn_report::{Report, places_of, report_of};
 use std::alloc::{AllocError, Global};
 
-/// Returns the report of what a machine left behind, as `kpn_run::report` does of a `Finish`: of a run
-/// that was watched or run by a crew (`WatchedRun::chronicle`), or whose monitor you closed yourself
-/// (`Closed::into_chronicle` of `kpn_monitor`). There is none exactly if the run has no end, since its
-/// observer stopped it or its threads left it.
+/// Returns the report of what a machine left, like `kpn_run::report`: of a run that was watched or run by a
+/// crew (`WatchedRun::chronicle`), or of a monitor that you closed (`Closed::into_chronicle`). Returns `None`
+/// exactly if the run has no end.
 ///
-/// It tells why the run ended, and its detail if it came to its own end; that detail is the one of every
-/// run of the network that is over, whatever the schedule and the number of workers, and its streams
-/// are below every solution of the network's equations, and the least one if the run terminated or
-/// ended in a deadlock (Kahn 1974, Parks 1995). Errors: memory was refused.
+/// If the run is over, the detail is that of every such run of the network. Its streams are below every
+/// solution of the network's equations, and are the least solution if the run terminated or deadlocked (Kahn
+/// 1974, Parks 1995). Errors: out of memory.
 ///
 /// ```text
 /// let report = chronicle_report(alloc, run.chronicle()).expect(rt, "memory");

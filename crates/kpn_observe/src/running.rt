@@ -1,4 +1,4 @@
-//! The run of a network by workers, beside an observer.
+//! Runs a network with workers beside an observer.
 ghost use Rattle.std.specs.Prelude.{◌≡◌, ◌≢◌, ◌<◌, ◌≤◌, ◌⊎◌, map, Err, IfOk, OnOk};
 ghost use Rattle.kpn_model.specs.Network.{Network as NetV};
 ghost use Rattle.kpn_model.specs.Families.{family};
@@ -35,60 +35,50 @@ use std::sync::ledger::Ledger;
 use std::thread::{Threads, join};
 use std::time::Duration;
 
-/// Why there was no run.
+/// Why a run failed.
 #[derive(Drop)]
 pub enum WatchedFault<B: Body> {
-    /// The number of workers is not 1 to 16. Nothing has run, and all is handed back unchanged.
+    /// The number of workers is not 1 to 16. Nothing has run; returns everything unchanged.
     Workers {
         net: Net<B::Kinds>,
         bodies: Vec<B>,
     },
-    /// The observer wished to stop before the start. Nothing has run, and all is handed back unchanged.
+    /// The observer stopped the run before its start. Nothing has run; returns everything unchanged.
     Stopped {
         net: Net<B::Kinds>,
         bodies: Vec<B>,
     },
-    /// The bodies are not one for each process, with its card. Nothing has run, and all is handed back
-    /// unchanged.
+    /// The bodies are not one for each process, with its card. Nothing has run; returns everything unchanged.
     Open {
         net: Net<B::Kinds>,
         bodies: Vec<B>,
         fault: OpenFault,
     },
-    /// Memory was refused, and the bodies fit. Nothing has run, and bodies of the right cards are
-    /// handed back in order.
+    /// Out of memory; the bodies fit. Nothing has run; returns bodies with the same cards, in order.
     Memory {
         net: Net<B::Kinds>,
         bodies: Vec<B>,
     },
-    /// The machine refused a worker's answer. That this never happens is not proved: no contract of the
-    /// monitor can name what lies under the lock.
+    /// The machine refused a worker's answer. It is unproved that this never happens: the monitor's contracts
+    /// can't name what the lock guards.
     Lost {
         answered: Answered<B::Kinds>,
         body: B,
     },
 }
 
-/// Runs a network from its start, by 1 to 16 workers and with a body for each process in order, and shows
-/// an observer once in each period how far the run has come: until its end, or until the observer
-/// wishes to stop.
+/// Runs a network from its start, with 1 to 16 workers and a body for each process, in order, until its end
+/// or until the observer, called once per `period`, stops it.
 ///
-/// Clause `closed`: the history is a run of the sequential machine, with as many
-/// entries as the workers have receipts, and an end, if there is one, is justified. `budget`: if it has
-/// ended, it has not ended by `Budget` if some run that is over has fewer entries than the budget. And
-/// all that is known of the history of `kpn_run::run`, stopped or not. `within`: after each
-/// prefix of the history no channel holds more tokens than its capacity. `comparable`: the deeds of
-/// each process, and the streams, in this history and in any run from any starting capacities are
-/// prefix-comparable, so that of what has come out of a channel here and in another run, one begins with
-/// the other; and every run that terminates or ends in a deadlock brings at least this (Kahn 1974).
-/// `room`: if capacity b suffices for the network, no channel of capacity b or more grows in it
-/// (Parks 1995). `streams`: its streams are below every solution of the network's equations.
+/// Stopped or not, the history is a run with as many entries as receipts, and an end, if any, is justified
+/// (`closed`). The other clauses are those of `kpn_run::run`. So every run that terminates or deadlocks has
+/// at least its deeds and streams (`comparable`; Kahn 1974); and if capacity b suffices for the network, no
+/// channel of capacity b or more grows (`room`; Parks 1995). The streams are below every solution of the
+/// network's equations (`streams`).
 ///
-/// The observer is called once before the start, with no entries; then in a thread of its own; and once
-/// more when the workers are done. Once it wishes to stop, each worker finishes what it holds and takes
-/// nothing more. The calling thread is one worker, and each other has a thread of its own; if a thread
-/// can't be started, the calling thread does its work. Nothing is claimed of how often the observer is
-/// called.
+/// The observer is called before the start, with no entries, then in its own thread, and once more when the
+/// workers are done; no contract says how often. Once it returns `Stop`, workers finish what they hold and
+/// take nothing more. The calling thread is one worker, and does the work of each that can't be started.
 ///
 /// Errors: see [`WatchedFault`].
 ///
@@ -127,8 +117,8 @@ pub fn run_watched<B: Body, R: Wait + Clock + Threads + Sync, G: Gate, V: Observ
     )
 }
 
-/// Runs a network as [`run_watched`] does, with the entries of its history kept by `H`: `Packed` has them in 16 bytes
-/// each, where `run_watched` takes 48.
+/// Runs a network like [`run_watched`], with the entries kept by `H`: `Packed` takes 16 bytes for each,
+/// `run_watched` 48.
 ///
 /// ```text
 /// let ran = run_watched_with_keeper::<CardBody<Standard>, Packed, R, Open, Witness>(
@@ -184,7 +174,6 @@ pub fn run_watched_with_keeper<
     }
 }
 
-/// How a run is watched: the gate that its workers ask, and who looks on, and how often.
 #[derive(Drop)]
 struct Watch<'a, G: Gate, V: Observer> {
     gate: &'a G,
@@ -192,7 +181,6 @@ struct Watch<'a, G: Gate, V: Observer> {
     observer: &'a V,
 }
 
-/// The fault of a run that failed.
 fn fault_of<B: Body>(failure: Failure<B>) -> WatchedFault<B>
     ensures workers { (n : NetV) (bs : _) → result ≢ WatchedFault.Workers n bs }
     ensures stopped { (n : NetV) (bs : _) → result ≢ WatchedFault.Stopped n bs }
@@ -209,7 +197,6 @@ fn fault_of<B: Body>(failure: Failure<B>) -> WatchedFault<B>
     }
 }
 
-/// Whether the observer wishes to stop before the start.
 fn stops_at_start<V: Observer>(observer: &V) -> bool {
     let progress = Progress {
         entries: 0,
@@ -219,7 +206,6 @@ fn stops_at_start<V: Observer>(observer: &V) -> bool {
     observer.see(progress) == Wish::Stop
 }
 
-/// Runs a network beside an observer.
 fn run_bodies<B: Body, H: Keeper + Send, R: Wait + Clock + Threads + Sync, G: Gate, V: Observer>(
     rt: &R,
     alloc: Global,
@@ -240,7 +226,6 @@ fn run_bodies<B: Body, H: Keeper + Send, R: Wait + Clock + Threads + Sync, G: Ga
     }
 }
 
-/// Runs a network from the opening of its monitor, beside an observer.
 fn run_opened<B: Body, H: Keeper + Send, R: Wait + Clock + Threads + Sync, G: Gate, V: Observer>(
     rt: &R,
     alloc: Global,
@@ -262,7 +247,7 @@ fn run_opened<B: Body, H: Keeper + Send, R: Wait + Clock + Threads + Sync, G: Ga
     }
 }
 
-/// Ghost lemma: what the laws say of a run, over or not.
+/// Ghost lemma: the laws hold of a run, over or not.
 pub(crate) fn told_by_laws<K: Kinds, H: Keeper>(ran: &WatchedRun<K, H>)
     ensures { IsWatchedRun (family K.Kinds) K.admits ran.now.machine.network ran.now }
 {
@@ -274,7 +259,7 @@ pub(crate) fn told_by_laws<K: Kinds, H: Keeper>(ran: &WatchedRun<K, H>)
     ran.end();
 }
 
-/// Runs a network from the opening of its monitor, beside an observer, with ledgers that are named.
+/// Generic over the ledgers, so that a call with `Brand` names them.
 fn run_named<
     B: Body,
     H: Keeper + Send,
@@ -310,7 +295,7 @@ fn run_named<
     }
 }
 
-/// Has the workers work, beside the observer if the monitor has a watcher for it.
+/// Works without the observer if the monitor has no watcher for it.
 fn work_watched<
     B: Body,
     H: Keeper + Send,
@@ -336,7 +321,6 @@ fn work_watched<
     }
 }
 
-/// Has the workers work, in the calling thread and others, with the observer in a thread of its own.
 fn work_beside<
     B: Body,
     H: Keeper + Send,
@@ -374,7 +358,6 @@ fn work_beside<
     workforce
 }
 
-/// Has the workers work, and tells the observer when all is done.
 fn work_and_ring<
     B: Body,
     H: Keeper + Send,

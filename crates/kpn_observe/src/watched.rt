@@ -1,4 +1,4 @@
-//! A run that has ended, that its observer stopped or that its crew left.
+//! A run that ended, was stopped by its observer or was left by its crew.
 ghost use Rattle.std.specs.Prelude.{◌≡◌, length};
 ghost use Rattle.kpn_model.specs.Families.{family};
 ghost use Rattle.kpn_monitor.specs.Kept.{IsClosed};
@@ -10,11 +10,11 @@ use kpn_network::Net;
 use kpn_state::{Keeper, Wide};
 use std::marker::Model;
 
-/// A run that has ended, that its observer stopped or that its crew left: what its machine left behind, and
-/// as many receipts as entries.
+/// A run that ended, was stopped by its observer or was left by its crew: what its machine left, and as many
+/// receipts as entries.
 ///
-/// The history is a run in each case, since each entry is one of a commit under the lock. After a stop by
-/// the observer what the workers held is in it; a crew may leave with tasks whose answers are not.
+/// The history is a run in each case. After a stop it includes what the workers held; a crew may leave with
+/// uncommitted tasks.
 #[derive(Drop)]
 pub struct WatchedRun<K: Kinds, H: Keeper = Wide> {
     chronicle: Chronicle<K, H>,
@@ -56,7 +56,7 @@ impl<K: Kinds, H: Keeper> WatchedRun<K, H> {
         self.chronicle.net()
     }
 
-    /// Returns what the machine left behind: network, history, standings and end. Its `keeper` has the entries.
+    /// Returns the machine's network, history, standings and end. Its `keeper` has the entries.
     ///
     /// ```text
     /// let report = chronicle_report(alloc, run.chronicle()).expect(rt, "memory");
@@ -74,7 +74,7 @@ impl<K: Kinds, H: Keeper> WatchedRun<K, H> {
         self.chronicle.standings()
     }
 
-    /// Returns the sum of the shares of the workers' seats, which is the number of entries.
+    /// Returns the sum of the seats' shares of entries, which is the number of entries.
     pub fn receipts(&self) -> u64
         ensures receipts { result ≡ self.now.receipts }
         ensures entries { result ≡ length self.now.machine.history }
@@ -82,8 +82,8 @@ impl<K: Kinds, H: Keeper> WatchedRun<K, H> {
         self.receipts
     }
 
-    /// Returns how the run ended; `None` if its observer stopped it or its crew left it before its end. In
-    /// all cases the history is a run from the start of the network, and an end is justified.
+    /// Returns how the run ended; `None` if it was stopped or left before. The history is a run in each case,
+    /// and an end is justified.
     ///
     /// ```text
     /// if run.end().is_none() {

@@ -1,4 +1,4 @@
--- The title of the picture of a run: its verdict, and its end.
+-- The title of the picture of a run: its verdict and its end.
 use Rattle.std.specs.Prelude.{ℕ, zero, suc, if◌then◌else◌, codes, List, [], ◌++◌, length, Option, Some, None}
 use Rattle.std.specs.Option.{option_map_or}
 use Rattle.kpn_model.specs.declared.history.Place.{Place}
@@ -10,7 +10,6 @@ use Rattle.kpn_model.specs.Network.{Network}
 use Rattle.kpn_model.specs.Waits.{is_on_cycle}
 use Rattle.kpn_verdict.specs.VerdictText.{verdict_words}
 
--- how a run ended
 abbrev pub end_text : End → List ℕ
 end_text Terminated = codes "terminated"
 end_text Deadlock = codes "deadlock"
@@ -18,17 +17,17 @@ end_text Ceiling = codes "a channel at the ceiling would have to grow"
 end_text Budget = codes "budget spent"
 end_text Memory = codes "memory refused"
 
--- how the line of a title ends, after the verdict
+-- the end of the title line, after the verdict
 abbrev pub end_part : End → List ℕ
 end_part end = codes " (" ++ end_text end ++ codes ")\";\n"
 
 module _ (net : Network) (places : List Place) where
-  -- the first of n processes that waits for itself, directly or through others
+  -- the first of n processes that waits for itself, directly or indirectly
   abbrev pub first_on_cycle : ℕ → Option ℕ
   first_on_cycle zero = None
   first_on_cycle (suc n) = option_map_or Some (first_on_cycle n) (if is_on_cycle net places n then Some n else None)
 
-  -- the verdict on a run that ended so, which is that of Rattle.kpn_model.specs.Verdicts
+  -- the verdict, equal to that of Rattle.kpn_model.specs.Verdicts
   abbrev pub verdict_at : End → Verdict
   verdict_at Terminated = Finished
   verdict_at Deadlock = option_map_or Cycle (first_on_cycle (length net.processes)) RanDry
@@ -36,7 +35,7 @@ module _ (net : Network) (places : List Place) where
   verdict_at Budget = Cut
   verdict_at Memory = OutOfMemory
 
-  -- the line of the title, if the picture is that of a run
+  -- the title line, for the picture of a run
   abbrev pub caption : Option End → List ℕ
   caption None = []
   caption (Some end) = codes "  label=\"" ++ verdict_words net places (verdict_at end) ++ end_part end

@@ -23,24 +23,23 @@ abbrev pub rankdir : Direction → List ℕ
 rankdir Right = codes "LR"
 rankdir Down = codes "TB"
 
--- the lines above all processes
 abbrev pub head : Direction → List ℕ
 head direction =
     codes "digraph kpn {\n  graph [rankdir=" ++ rankdir direction ++ codes ", nodesep=0.4, ranksep=0.6, labelloc=t, fontname=\"Helvetica\", fontsize=16];\n"
     ++ codes "  node [shape=box, style=\"rounded,filled\", fillcolor=\"#eef3fa\", color=\"#44546a\", fontname=\"Helvetica\"];\n"
     ++ codes "  edge [color=\"#44546a\", fontcolor=\"#44546a\", fontname=\"Helvetica\", fontsize=11, labelfontsize=9, labeldistance=1.5, labelangle=25];\n"
 
--- a text that needs no escapes between quotes: it has no quote, no backslash and no line feed
+-- a text that needs no escapes between quotes
 abbrev pub IsPlain : List ℕ → Type 0
 IsPlain text = All (λ b. (b ≢ 34) × (b ≢ 92) × (b ≢ 10)) text
 
--- argument k of a card, if its title has so many: where it is below 0, of -1 - n the card has n
+-- argument k of a card, if its title has it; for an argument -1 - n below 0 the card has n
 abbrev pub argument_part : ℕ → Card → ℕ → List ℕ
 argument_part arity card k =
     if nat_le arity k then [] else
     if nat_lt k (below card arity) then codes " -" ++ decimal (at card.args k + 1) else codes " " ++ decimal (at card.args k)
 
--- a sort, where it isn't that of most channels; and a capacity, where it wasn't 1 or has grown
+-- a sort other than words; and a capacity that was not 1 or has grown
 abbrev pub sort_part : Sort → List ℕ
 sort_part Words = []
 sort_part Flags = codes "\\nflags"
@@ -51,53 +50,52 @@ capacity_text at_first last = if at_first == last then decimal last else decimal
 abbrev pub capacity_part : ℕ → ℕ → List ℕ
 capacity_part at_first last = if (at_first == 1) && (last == 1) then [] else codes "\\ncapacity " ++ capacity_text at_first last
 
--- how many tokens a channel holds, if it holds any
 abbrev pub held_part : ℕ → List ℕ
 held_part zero = []
 held_part (suc n) = codes "\\nholds " ++ decimal (suc n)
 
--- how an edge looks: one on a cycle of waits red and bold; one that grew blue, or with blue text
+-- red and bold on a cycle of waits; blue, or with blue text, if it grew
 abbrev pub edge_look : Bool → Bool → List ℕ
 edge_look true true = codes ", color=\"#c0392b\", fontcolor=\"#1f6fb4\", penwidth=3"
 edge_look true false = codes ", color=\"#c0392b\", fontcolor=\"#c0392b\", penwidth=3"
 edge_look false true = codes ", color=\"#1f6fb4\", fontcolor=\"#1f6fb4\", penwidth=2"
 edge_look false false = []
 
--- how a process looks: one on a cycle of waits has a red frame, one that has ended is grey
+-- with a red frame on a cycle of waits, grey if it has stopped
 abbrev pub process_look : Bool → Option Place → List ℕ
 process_look true place = codes ", color=\"#c0392b\", penwidth=2"
 process_look false (Some Stopped) = codes ", fillcolor=\"#e3e3e3\""
 process_look false _ = []
 
--- the number of a port at this end of an edge, if the process has a second one
+-- only if the process has a second port
 abbrev pub port_part : List ℕ → ℕ → Option ℕ → List ℕ
 port_part end port None = []
 port_part end port (Some second) = codes ", " ++ end ++ codes "label=\"" ++ decimal port ++ codes "\""
 
--- how the line of a channel between processes with these names begins
+-- the line of a channel up to its label
 abbrev pub arrow : List ℕ → List ℕ → List ℕ
 arrow writer reader = codes "  \"" ++ writer ++ codes "\" -> \"" ++ reader ++ codes "\" [label=\""
 
--- how the line of a process with this name begins, up to its kind; and how it ends, after the label
+-- the line of a process up to its kind, and after its label
 abbrev pub box_opening : List ℕ → List ℕ
 box_opening name = codes "  \"" ++ name ++ codes "\" [label=\"" ++ name ++ codes "\\n"
 
 abbrev pub closing : List ℕ → List ℕ
 closing look = codes "\"" ++ look ++ codes "];\n"
 
--- a kind, with the arguments that it takes
+-- a kind, with its arguments
 abbrev pub kind_text : (ℕ → List ℕ × ℕ) → Card → List ℕ
 kind_text title card = let t = title card.kind in t.0 ++ argument_part t.1 card 0 ++ argument_part t.1 card 1 ++ argument_part t.1 card 2
 
--- the processes stand in rows of eight, in their order; a channel stays in a row if both its ends are there
+-- a row has eight processes, in order; a channel stays in a row if both its ends are in it
 abbrev pub stays : Channel → Bool
 stays l = l.writer / 8 == l.reader / 8
 
--- the picture has rows if there are more than twelve processes, and more than half of the channels stay in a row
+-- there are rows if there are more than twelve processes, and more than half of the channels stay in a row
 abbrev pub has_rows : Network → Bool
 has_rows net = nat_lt 12 (length net.processes) && nat_lt (length net.channels / 2) (count_by stays net.channels)
 
--- the rows are laid out one below the other, each for itself: a channel to another row has no say in it
+-- a channel to another row does not affect the layout
 abbrev pub row_part : Bool → Bool → List ℕ
 row_part rows staying = if rows && not staying then codes ", constraint=false" else []
 
@@ -109,17 +107,16 @@ module _ (net : Network) where
   place_label (Writes c) = codes "\\nwaits to write " ++ channel_name net c
 
   module _ (title : ℕ → List ℕ × ℕ) (places : List Place) where
-    -- process p, as a box: its name, its kind and its place, if that is known
+    -- process p, as a box: its name, its kind and its place, if known
     abbrev pub node_line : ℕ → List ℕ
     node_line p =
         box_opening (process_name net p) ++ kind_text title (card_of net p) ++ option_map_or place_label (slice_get places p) []
         ++ closing (process_look (is_on_cycle net places p) (slice_get places p))
 
-  -- how the line of channel c begins, up to its label
   abbrev pub edge_opening : ℕ → List ℕ
   edge_opening c = let l = channel_of net c in arrow (process_name net l.writer) (process_name net l.reader)
 
-  -- the numbers of the ports at its ends, where the process has several: they are numbered from 0
+  -- the numbers of the ports at its ends, from 0, if the process has several
   abbrev pub tail_part : ℕ → List ℕ
   tail_part c = let l = channel_of net c in port_part (codes "tail") l.out (out_of net l.writer 1)
 
@@ -127,7 +124,7 @@ module _ (net : Network) where
   head_part c = let l = channel_of net c in port_part (codes "head") l.input (in_of net l.reader 1)
 
   module _ (places : List Place) (capacities : List ℕ) (rests : List (List Token)) where
-    -- what channel c holds, and its capacity: at the end, if that is known, and else at first
+    -- what channel c holds, and its capacity: at the end, if known, otherwise at first
     abbrev pub held_tokens : ℕ → ℕ
     held_tokens c = length (option_map_or (λ rest. rest) (slice_get rests c) (channel_of net c).tokens)
 
@@ -137,11 +134,11 @@ module _ (net : Network) where
     abbrev pub has_grown : ℕ → Bool
     has_grown c = not ((channel_of net c).capacity == last_capacity c)
 
-    -- the label of channel c: its name, and of its sort, its capacity and what it holds whatever isn't usual
+    -- the label of channel c: its name, and its sort, capacity and tokens if unusual
     abbrev pub edge_label : ℕ → List ℕ
     edge_label c = channel_name net c ++ sort_part (channel_of net c).sort ++ capacity_part (channel_of net c).capacity (last_capacity c) ++ held_part (held_tokens c)
 
-    -- what follows its label: how it looks, and its ports
+    -- what follows its label: its look, and its ports
     abbrev pub edge_attributes : Bool → ℕ → List ℕ
     edge_attributes rows c = edge_look (is_jammed net places c) (has_grown c) ++ tail_part c ++ head_part c ++ row_part rows (stays (channel_of net c))
 
@@ -149,7 +146,7 @@ module _ (net : Network) where
     abbrev pub edge_line : Bool → ℕ → List ℕ
     edge_line rows c = edge_opening c ++ edge_label c ++ codes "\"" ++ edge_attributes rows c ++ codes "];\n"
 
--- the picture of a network, and of a run with this end that left it like this
+-- the picture of a network, or of a run that ended like this
 abbrev pub picture : Direction → (ℕ → List ℕ × ℕ) → Network → Option End → List Place → List ℕ → List (List Token) → List ℕ
 picture direction title net end places capacities rests =
     head direction ++ caption net places end ++ lines_upto (node_line net title places) (length net.processes)

@@ -1,4 +1,4 @@
--- The titles of kinds: the name of each, and how many arguments it takes.
+-- The titles of kinds: the name and the number of arguments of each.
 use Rattle.std.specs.Prelude.{◌≡◌, ◌⊎◌, ℕ, ◌/◌, ◌%◌, ◌==◌, nat_lt, if◌then◌else◌, List, [], Option, Some, None}
 use Rattle.std.specs.Option.{option_map_or}
 use Rattle.kpn_model.specs.declared.kinds.Card.{Card}
@@ -7,24 +7,24 @@ use Rattle.kpn_standard.specs.Locals.{at}
 use Rattle.kpn_standard.specs.Table.{row_of, numbered}
 use Rattle.kpn_signals.specs.Table.{numbered as signal_numbered, called_by}
 
--- the title of each standard kind, by its number; no title for any other number
+-- the title of each standard kind, by its number; empty for any other number
 abbrev pub standard_title : ℕ → List ℕ × ℕ
 standard_title number = option_map_or (λ kind. ((row_of kind).name, (row_of kind).arguments)) (numbered number) ([], 0)
 
--- the title of each kind for signals: what a description calls it by
+-- the title of each kind for signals: its name in descriptions
 abbrev pub signals_title : ℕ → List ℕ × ℕ
 signals_title number = option_map_or called_by (signal_numbered number) ([], 0)
 
--- how many of the arguments of a card are below 0, from the first on, if its title has so many arguments: the one after these says it
+-- the argument after those of a card's title: how many of these, from the first on, are below 0
 abbrev pub below : Card → ℕ → ℕ
 below card arity = if nat_lt arity 3 then at card.args arity else 0
 
--- the title of each kind of two joined families, by the titles of each
+-- the titles of two joined families
 abbrev pub both_title : (ℕ → List ℕ × ℕ) → (ℕ → List ℕ × ℕ) → ℕ → List ℕ × ℕ
 both_title first second number = (if number % 2 == 0 then first else second) (number / 2)
 
--- a name has a meaning: this kind, with so many arguments; or it is refused, as one that two joined families have: no card of
--- the number that it means has ports
+-- a name means this kind, with this number of arguments; or it is refused, since two joined families have it:
+-- no card of its number has ports
 abbrev pub MeansKind : (Card → Option Signature) → Option (ℕ × ℕ) → ℕ × ℕ → Type 0
 MeansKind ports None kind = ⊥
 MeansKind ports (Some meant) kind = (meant ≡ kind) ⊎ ((args : List ℕ) → ports (record { kind = meant.0; args = args }) ≡ None)

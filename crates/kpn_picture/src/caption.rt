@@ -8,7 +8,6 @@ use kpn_verdict::{push_verdict, verdict_of};
 use std::alloc::AllocError;
 use std::fmt::Write;
 
-/// How a run ended.
 fn end_text(end: End) -> &'static str
     ensures { result.now ≡ end_text end }
 {
@@ -21,7 +20,6 @@ fn end_text(end: End) -> &'static str
     }
 }
 
-/// Appends how the line of a title ends, after the verdict.
 fn push_end(out: &mut String, end: End) -> Result<(), AllocError>
     ensures { OnOk result (string_bytes out.new ≡ string_bytes out.old ++ end_part end) }
 {
@@ -29,7 +27,6 @@ fn push_end(out: &mut String, end: End) -> Result<(), AllocError>
     write!(out, " ({text})\";\n")
 }
 
-/// The verdict on a run that left the processes so.
 #[tactic(auto, using(crate::proofs::Verdicts::verdict_is))]
 fn verdict_at<K: Kinds>(net: &Net<K>, places: &[Place], end: End) -> Verdict
     ensures { result ≡ verdict_at net.now places.now end }
@@ -37,7 +34,7 @@ fn verdict_at<K: Kinds>(net: &Net<K>, places: &[Place], end: End) -> Verdict
     verdict_of(net, places, end)
 }
 
-/// Appends the line of the title, if the picture is that of a run: its verdict, and its end.
+/// Appends the title line, for the picture of a run: its verdict and its end.
 pub(crate) fn push_caption<K: Kinds>(
     out: &mut String,
     net: &Net<K>,

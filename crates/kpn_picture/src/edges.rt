@@ -15,7 +15,6 @@ use kpn_verdict::is_jammed;
 use std::alloc::AllocError;
 use std::fmt::Write;
 
-/// Appends the starting capacity of a channel, and the one that it grew to.
 fn push_capacities(out: &mut String, at_first: usize, last: usize) -> Result<(), AllocError>
     ensures { OnOk result (string_bytes out.new ≡ string_bytes out.old ++ capacity_text at_first last) }
 {
@@ -26,7 +25,7 @@ fn push_capacities(out: &mut String, at_first: usize, last: usize) -> Result<(),
     }
 }
 
-/// Appends the capacity of a channel, if it wasn't 1 or has grown.
+/// Appends the capacity of a channel, if it is not 1 or has grown.
 fn push_capacity(out: &mut String, at_first: usize, last: usize) -> Result<(), AllocError>
     ensures { OnOk result (string_bytes out.new ≡ string_bytes out.old ++ capacity_part at_first last) }
 {
@@ -37,7 +36,7 @@ fn push_capacity(out: &mut String, at_first: usize, last: usize) -> Result<(), A
     push_capacities(out, at_first, last)
 }
 
-/// Appends how many tokens a channel holds, if it holds any.
+/// Appends how many tokens a channel holds, if any.
 fn push_held(out: &mut String, tokens: usize) -> Result<(), AllocError>
     ensures { OnOk result (string_bytes out.new ≡ string_bytes out.old ++ held_part tokens) }
 {
@@ -48,7 +47,7 @@ fn push_held(out: &mut String, tokens: usize) -> Result<(), AllocError>
     }
 }
 
-/// How many tokens a channel holds at the end, if that is known, and else at first.
+/// Returns how many tokens a channel holds at the end, if known, otherwise at first.
 fn held_tokens<K: Kinds>(net: &Net<K>, left: &Left<'_>, c: usize) -> usize
     requires { c < length net.now.channels }
     ensures { result ≡ held_tokens net.now left.now.places.now left.now.capacities.now left.now.rests.now c }
@@ -59,7 +58,7 @@ fn held_tokens<K: Kinds>(net: &Net<K>, left: &Left<'_>, c: usize) -> usize
     }
 }
 
-/// The capacity of a channel at the end, if that is known, and else at first.
+/// Returns the capacity of a channel at the end, if known, otherwise at first.
 fn last_capacity<K: Kinds>(net: &Net<K>, left: &Left<'_>, c: usize) -> usize
     requires { c < length net.now.channels }
     ensures { result ≡ last_capacity net.now left.now.places.now left.now.capacities.now left.now.rests.now c }
@@ -70,14 +69,12 @@ fn last_capacity<K: Kinds>(net: &Net<K>, left: &Left<'_>, c: usize) -> usize
     }
 }
 
-/// Appends how the line of a channel between processes with these names begins.
 fn push_arrow(out: &mut String, writer: &str, reader: &str) -> Result<(), AllocError>
     ensures { OnOk result (string_bytes out.new ≡ string_bytes out.old ++ arrow writer.now reader.now) }
 {
     write!(out, "  \"{writer}\" -> \"{reader}\" [label=\"")
 }
 
-/// Appends how the line of a channel begins, up to its label.
 fn push_opening<K: Kinds>(out: &mut String, net: &Net<K>, c: usize) -> Result<(), AllocError>
     requires { c < length net.now.channels }
     ensures { OnOk result (string_bytes out.new ≡ string_bytes out.old ++ edge_opening net.now c) }
@@ -88,7 +85,6 @@ fn push_opening<K: Kinds>(out: &mut String, net: &Net<K>, c: usize) -> Result<()
     push_arrow(out, writer, reader)
 }
 
-/// Appends the label of a channel.
 fn push_label<K: Kinds>(
     out: &mut String,
     net: &Net<K>,
@@ -105,7 +101,6 @@ fn push_label<K: Kinds>(
     Ok(())
 }
 
-/// How a channel looks.
 fn look<K: Kinds>(net: &Net<K>, left: &Left<'_>, c: usize) -> &'static str
     requires { c < length net.now.channels }
     ensures { result.now ≡ edge_look (is_jammed net.now left.now.places.now c) (has_grown net.now left.now.places.now left.now.capacities.now left.now.rests.now c) }
@@ -114,7 +109,7 @@ fn look<K: Kinds>(net: &Net<K>, left: &Left<'_>, c: usize) -> &'static str
     edge_look(is_jammed(net, left.places, c), has_grown)
 }
 
-/// Appends the number of a port at an end of an edge, if the process has a second one.
+/// Does nothing unless the process has a second port.
 fn push_port(
     out: &mut String,
     end: &str,
@@ -129,7 +124,6 @@ fn push_port(
     }
 }
 
-/// Appends the number of the output from which a channel leads, if its writer has several.
 fn push_tail<K: Kinds>(out: &mut String, net: &Net<K>, c: usize) -> Result<(), AllocError>
     requires { c < length net.now.channels }
     ensures { OnOk result (string_bytes out.new ≡ string_bytes out.old ++ tail_part net.now c) }
@@ -138,7 +132,6 @@ fn push_tail<K: Kinds>(out: &mut String, net: &Net<K>, c: usize) -> Result<(), A
     push_port(out, "tail", ends.out, net.out_of(ends.writer, 1))
 }
 
-/// Appends the number of the input to which a channel leads, if its reader has several.
 fn push_head<K: Kinds>(out: &mut String, net: &Net<K>, c: usize) -> Result<(), AllocError>
     requires { c < length net.now.channels }
     ensures { OnOk result (string_bytes out.new ≡ string_bytes out.old ++ head_part net.now c) }
@@ -147,7 +140,6 @@ fn push_head<K: Kinds>(out: &mut String, net: &Net<K>, c: usize) -> Result<(), A
     push_port(out, "head", ends.input, net.in_of(ends.reader, 1))
 }
 
-/// Appends what follows the label of a channel.
 fn push_attributes<K: Kinds>(
     out: &mut String,
     net: &Net<K>,
@@ -165,7 +157,6 @@ fn push_attributes<K: Kinds>(
     Ok(())
 }
 
-/// Appends the line of a channel.
 fn push_channel<K: Kinds>(
     out: &mut String,
     net: &Net<K>,
@@ -184,7 +175,6 @@ fn push_channel<K: Kinds>(
     Ok(())
 }
 
-/// Appends the lines of all channels.
 pub(crate) fn push_channels<K: Kinds>(
     out: &mut String,
     net: &Net<K>,

@@ -1,4 +1,4 @@
-//! Pictures of networks, in the language of Graphviz: of a description, and of the network after a run.
+//! Pictures of networks in the language of Graphviz: of a description, or after a run.
 #![tactic(auto)]
 
 mod caption;

@@ -6,14 +6,14 @@ use kpn_model::{Place, Sort};
 use std::alloc::AllocError;
 use std::fmt::Write;
 
-/// Where the channels of a picture lead.
+/// In which direction the channels of a picture lead.
 #[derive(Clone, Copy, Debug, PartialEq, Eq)]
 pub enum Direction {
     Right,
     Down,
 }
 
-/// The direction, as Graphviz calls it.
+/// Returns Graphviz's name of the direction.
 pub(crate) fn rankdir(direction: Direction) -> &'static str
     ensures { result.now ≡ rankdir direction }
 {
@@ -23,7 +23,7 @@ pub(crate) fn rankdir(direction: Direction) -> &'static str
     }
 }
 
-/// How an edge looks: one on a cycle of waits red and bold; one that grew blue, or with blue text.
+/// Red and bold on a cycle of waits; blue, or with blue text, if it grew.
 pub(crate) fn edge_look(is_jammed: bool, has_grown: bool) -> &'static str
     ensures { result.now ≡ edge_look is_jammed has_grown }
 {
@@ -35,7 +35,7 @@ pub(crate) fn edge_look(is_jammed: bool, has_grown: bool) -> &'static str
     }
 }
 
-/// How a process looks: one on a cycle of waits has a red frame, one that has ended is grey.
+/// With a red frame on a cycle of waits, grey if it has stopped.
 pub(crate) fn process_look(is_on_cycle: bool, place: Option<Place>) -> &'static str
     ensures { result.now ≡ process_look is_on_cycle place }
 {
@@ -46,7 +46,6 @@ pub(crate) fn process_look(is_on_cycle: bool, place: Option<Place>) -> &'static 
     }
 }
 
-/// A sort, where it isn't that of most channels.
 pub(crate) fn sort_part(sort: Sort) -> &'static str
     ensures { result.now ≡ sort_part sort }
 {
@@ -56,8 +55,7 @@ pub(crate) fn sort_part(sort: Sort) -> &'static str
     }
 }
 
-/// What an edge says to Graphviz of the rows of a picture: if it leads to another row, it has no say in
-/// where processes stand.
+/// Returns the attribute that keeps an edge to another row from placing processes.
 pub(crate) fn row_part(has_rows: bool, stays: bool) -> &'static str
     ensures { result.now ≡ row_part has_rows stays }
 {
@@ -68,7 +66,6 @@ pub(crate) fn row_part(has_rows: bool, stays: bool) -> &'static str
     }
 }
 
-/// Appends how the line of a process ends, after its label.
 pub(crate) fn push_closing(out: &mut String, look: &str) -> Result<(), AllocError>
     ensures { OnOk result (string_bytes out.new ≡ string_bytes out.old ++ closing look.now) }
 {

@@ -15,14 +15,14 @@ use kpn_verdict::{is_on_cycle, place_at};
 use std::alloc::AllocError;
 use std::fmt::Write;
 
-/// How many of the arguments of a card are below 0, if its title has so many.
+/// Returns the argument after those of a card's title: how many of these are below 0.
 fn below(card: &Card, arity: usize) -> u64
     ensures { result ≡ below card.now arity }
 {
     if arity < 3 { card.args[arity] } else { 0 }
 }
 
-/// Appends argument `k` of a card, if its title has so many.
+/// Appends argument `k` of a card, if its title has it.
 fn push_argument(out: &mut String, card: &Card, arity: usize, k: usize) -> Result<(), AllocError>
     requires { k < 3 }
     ensures { OnOk result (string_bytes out.new ≡ string_bytes out.old ++ argument_part arity card.now k) }
@@ -38,7 +38,7 @@ fn push_argument(out: &mut String, card: &Card, arity: usize, k: usize) -> Resul
     }
 }
 
-/// Appends the kind of a card, with the arguments that it takes.
+/// Appends the kind of a card, with its arguments.
 fn push_kind<K: Titled>(out: &mut String, card: &Card) -> Result<(), AllocError>
     requires { IsSome (K.signature card.now) }
     ensures { OnOk result (string_bytes out.new ≡ string_bytes out.old ++ kind_text K.title card.now) }
@@ -51,7 +51,7 @@ fn push_kind<K: Titled>(out: &mut String, card: &Card) -> Result<(), AllocError>
     Ok(())
 }
 
-/// Appends the place in which a run left a process, if that is known.
+/// Appends the place in which a run left a process, if known.
 fn push_place<K: Kinds>(
     out: &mut String,
     net: &Net<K>,
@@ -73,7 +73,7 @@ fn push_place<K: Kinds>(
     }
 }
 
-/// The card of a process, which has a signature.
+/// Returns the card of a process, which has a signature.
 fn card<K: Kinds>(net: &Net<K>, p: usize) -> Card
     requires { p < length net.now.processes }
     ensures is { result ≡ card_of net.now p }
@@ -83,14 +83,12 @@ fn card<K: Kinds>(net: &Net<K>, p: usize) -> Card
     net.card(p)
 }
 
-/// Appends how the line of a process begins, up to its kind.
 fn push_opening(out: &mut String, name: &str) -> Result<(), AllocError>
     ensures { OnOk result (string_bytes out.new ≡ string_bytes out.old ++ box_opening name.now) }
 {
     write!(out, "  \"{name}\" [label=\"{name}\\n")
 }
 
-/// Appends the line of a process.
 fn push_process<K: Titled>(
     out: &mut String,
     net: &Net<K>,
@@ -110,7 +108,6 @@ fn push_process<K: Titled>(
     Ok(())
 }
 
-/// Appends the lines of all processes.
 pub(crate) fn push_processes<K: Titled>(
     out: &mut String,
     net: &Net<K>,

@@ -11,9 +11,8 @@ use kpn_model::{End, Kinds, Listed, Place, Token};
 use kpn_network::Net;
 use std::alloc::{AllocError, Global};
 
-/// How a run left a network: the place of each process; for each channel its last capacity, and what it
-/// still holds. If a list is too short, the rest is not known: then no place is drawn, and a channel is
-/// drawn as it was at first.
+/// How a run left a network: the place of each process, and the last capacity and remaining tokens of each
+/// channel. If a list is too short, no place is drawn, and a channel is drawn as at first.
 #[derive(Clone, Copy)]
 pub struct Left<'a> {
     pub places: &'a [Place],
@@ -21,7 +20,7 @@ pub struct Left<'a> {
     pub rests: &'a [Listed<Token>],
 }
 
-/// The lines above all processes, after the direction.
+/// The rest of the lines above all processes, after the direction.
 const LOOK: &str = "\
 , nodesep=0.4, ranksep=0.6, labelloc=t, fontname=\"Helvetica\", fontsize=16];
   node [shape=box, style=\"rounded,filled\", fillcolor=\"#eef3fa\", color=\"#44546a\", fontname=\"Helvetica\"];
@@ -36,7 +35,6 @@ fn names_are_plain<K: Kinds>(net: &Net<K>)
     net.processes();
 }
 
-/// The lines above all processes.
 fn head(alloc: Global, direction: Direction) -> Result<String, AllocError>
     ensures { IfOk result (λ text. string_bytes text ≡ head direction) }
 {
@@ -46,19 +44,17 @@ fn head(alloc: Global, direction: Direction) -> Result<String, AllocError>
     Ok(out)
 }
 
-/// Returns the picture of a network, as a directed graph in the language of Graphviz: each process is a
-/// box with its name and its kind, each channel an edge from its writer to its reader, with its name and
-/// whatever isn't usual: a sort of flags, a capacity other than 1, tokens that it holds. A port has its
-/// number where the process has several inputs, or several outputs. For a run that ended it shows the
-/// verdict and the end, the place in which it left each process, the capacity to which each channel
-/// grew and what it holds; the channels on a cycle of waits are red.
+/// Returns the picture of a network as a directed graph in the language of Graphviz: boxes for processes,
+/// with name and kind, and edges for channels, from writer to reader, with name and whatever is unusual: a
+/// sort of flags, a capacity other than 1, tokens. A port has its number if the process has several. For a
+/// run that ended it shows the verdict and the end, each process's place, and each channel's growth and
+/// tokens; channels on a cycle of waits are red.
 ///
-/// The channels lead in one direction. If there are more than 12 processes, and most channels stay
-/// within a row, the processes stand in rows of eight, in their order (in columns, if the direction is
-/// down).
+/// More than 12 processes are in rows of eight, in order (in columns, if the direction is down), if most
+/// channels stay within a row.
 ///
-/// A name is in quotes and needs no escapes, since it has no quote, no backslash and no line feed
-/// (`processes` and `channels`). Errors: memory was refused.
+/// Names are quoted without escapes, since they have no quote, backslash or line feed (`processes` and
+/// `channels`). Errors: out of memory.
 pub fn picture_of<K: Titled>(
     alloc: Global,
     net: &Net<K>,

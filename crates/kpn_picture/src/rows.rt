@@ -6,13 +6,12 @@ ghost use Rattle.kpn_picture.specs.Picture.{has_rows, stays};
 use kpn_model::Kinds;
 use kpn_network::Net;
 
-/// How many processes stand in a row.
+/// How many processes a row has.
 const ROW: usize = 8;
 
-/// A picture of so many processes has no rows.
+/// A picture with up to this many processes has no rows.
 const ONE_ROW: usize = 12;
 
-/// Whether both ends of a channel stand in one row.
 pub(crate) fn stays<K: Kinds>(net: &Net<K>, c: usize) -> bool
     requires { c < length net.now.channels }
     ensures { result ≡ stays (channel_of net.now c) }
@@ -21,7 +20,6 @@ pub(crate) fn stays<K: Kinds>(net: &Net<K>, c: usize) -> bool
     ends.writer / ROW == ends.reader / ROW
 }
 
-/// How many channels stay in a row.
 fn staying<K: Kinds>(net: &Net<K>) -> usize
     ensures count { result ≡ count_by stays net.now.channels }
 {
@@ -34,7 +32,6 @@ fn staying<K: Kinds>(net: &Net<K>) -> usize
     staying
 }
 
-/// Whether the processes of a picture stand in rows: there are many, and most channels stay in a row.
 pub(crate) fn has_rows<K: Kinds>(net: &Net<K>) -> bool
     ensures { result ≡ has_rows net.now }
 {

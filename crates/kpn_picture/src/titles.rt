@@ -12,18 +12,17 @@ use kpn_model::{Card, Kinds};
 use kpn_signals::{Signal, Signals};
 use kpn_standard::{Kind, Standard};
 
-/// A family whose kinds have titles: the name by which a description calls each, and how many
-/// arguments it takes.
+/// A family with titles for its kinds: the name in descriptions, and the number of arguments.
 pub trait Titled: Kinds {
     ghost use Rattle.std.specs.Prelude.{◌≡◌, ℕ, List, IsSome};
     ghost use Rattle.kpn_picture.specs.Titles.{MeansKind, below};
 
     ghost title: { ℕ → List ℕ × ℕ };
 
-    /// Returns the title of the kind of a card: its name and the number of its arguments. The name means
-    /// this kind; or it is refused in each description, as a name that two joined families have; or the card
-    /// has one argument more, which is not 0: so many of its arguments are below 0, from the first on, and of
-    /// such an argument -1 - n it has n. The card must have a signature.
+    /// Returns the title of a card's kind: its name and its number of arguments. The name means this kind,
+    /// unless descriptions refuse it because two joined families have it, or the card has one more argument,
+    /// n > 0: then its first n arguments are below 0, and the card has m for the argument -1 - m. The card
+    /// must have a signature.
     fn title(card: &Card) -> (&'static str, usize)
         requires { IsSome (Self.signature card.now) }
         ensures name { result.0.now ≡ (title card.now.kind).0 }
@@ -31,14 +30,14 @@ pub trait Titled: Kinds {
         ensures named { below card.now (title card.now.kind).1 ≡ 0 → MeansKind Self.signature (Self.named (title card.now.kind).0) (card.now.kind, (title card.now.kind).1) };
 }
 
-/// Filters whose kinds have titles, as `Titled` has them of a family.
+/// Filters with titles for their kinds, as in `Titled`.
 pub trait TitledFilters: Filters {
     ghost use Rattle.std.specs.Prelude.{◌≡◌, ℕ, List, Some, true};
 
     ghost title: { ℕ → List ℕ × ℕ };
 
-    /// Returns the title of the kind of a card: its name, which means this kind, and the number of its
-    /// arguments. The card must be accepted.
+    /// Returns the title of a card's kind: its name, which means this kind, and its number of arguments. The
+    /// card must be accepted.
     fn title(card: &Card) -> (&'static str, usize)
         requires { Self.accepts card.now ≡ true }
         ensures name { result.0.now ≡ (title card.now.kind).0 }
@@ -57,7 +56,7 @@ impl<F: TitledFilters> Titled for Filtered<F> {
 impl Titled for Standard {
     ghost title = { standard_title };
 
-    /// Returns the title of the kind of a card. Its name means this kind.
+    /// Returns the title of a card's kind. Its name means this kind.
     fn title(card: &Card) -> (&'static str, usize)
         requires { IsSome (signature card.now) }
         ensures name { result.0.now ≡ (standard_title card.now.kind).0 }
@@ -71,7 +70,6 @@ impl Titled for Standard {
     }
 }
 
-// The title of a standard kind.
 fn title_of_kind(kind: Kind) -> (&'static str, usize)
     ensures name { result.0.now ≡ (row_of kind).name }
     ensures arity { result.1 ≡ (row_of kind).arguments }
@@ -84,8 +82,8 @@ fn title_of_kind(kind: Kind) -> (&'static str, usize)
 impl Titled for Signals {
     ghost title = { signals_title };
 
-    /// Returns the title of the kind of a card. Its name means this kind, if no argument is below 0; the kinds
-    /// with arguments below 0 have the names by which a description calls them.
+    /// Returns the title of a card's kind. Its name means this kind if no argument is below 0; otherwise it
+    /// is the name that descriptions use.
     fn title(card: &Card) -> (&'static str, usize)
         requires { IsSome (ports card.now) }
         ensures name { result.0.now ≡ (signals_title card.now.kind).0 }

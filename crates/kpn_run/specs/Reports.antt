@@ -24,18 +24,19 @@ pub record HasOutcome (kinds : Family) (net other : Network) (history F : List E
   pub steps : d.steps ≡ each_process net (λ p. length (deeds F p))
   pub streams : d.streams ≡ each_channel net (λ c. stream other F c)
 
--- if the run terminated or ended in a deadlock, every run that does so, from any starting capacities, has the same outcome
+-- if the run terminated or deadlocked, every run that does so, from any starting capacities, has the same
+-- outcome
 abbrev pub IsOutcome : Family → Network → End → List Entry → Option Detail → Type 0
 IsOutcome kinds net cause history detail =
     IsNatural cause → (sizes : ℕ → ℕ) (F : List Entry) (N : State) (b : End) → IsFinal kinds (resized net sizes) F N b → IsNatural b
     → (d : Detail) × (detail ≡ Some d) × HasOutcome kinds net (resized net sizes) history F N d
 
--- in each solution of the network's equations each stream begins with that of the detail; and if the run terminated or ended in a
--- deadlock, the streams of the detail are the least solution
+-- in each solution each stream begins with the detail's; if the run terminated or deadlocked, the detail's
+-- streams are the least solution
 pub record HasLeastStreams (kinds : Family) (net : Network) (cause : End) (d : Detail) : Type 0 where
   pub below : (T : Streams) → Obeys kinds net T → (c : ℕ) → BeginsWith (T c) (get_or d.streams c [])
   pub least : IsNatural cause → IsLeastSolution kinds net (listed d.streams)
 
--- if the run came to its own end, there is a detail, and it has such streams
+-- if the run is over, there is a detail, and it has such streams
 abbrev pub TellsLeastSolution : Family → Network → End → Option Detail → Type 0
 TellsLeastSolution kinds net cause detail = has_report cause ≡ true → (d : Detail) × (detail ≡ Some d) × HasLeastStreams kinds net cause d

@@ -1,4 +1,4 @@
--- What a run returns, and what its workers hand back.
+-- What a run returns, and what its workers return.
 use Rattle.std.specs.Prelude.{◌≡◌, ◌≢◌, ◌<◌, ℕ, Bool, false, length, List, ◌++◌}
 use Rattle.kpn_model.specs.declared.history.End.{End}
 use Rattle.kpn_model.specs.declared.history.End.TheVariants.{Budget}
@@ -13,14 +13,13 @@ use Rattle.kpn_laws.specs.StreamsOfRun.{ApproachLeastSolution}
 use Rattle.kpn_machine.specs.MachineView.{MachineView}
 use Rattle.kpn_monitor.specs.Views.{Shares}
 
--- what contracts see of a run that has ended: the machine that was closed, the receipts, and the end
+-- a run that has ended: the closed machine, the receipts, and the end
 pub record FinishView : Type 0 where
   pub machine : MachineView
   pub receipts : ℕ
   pub cause : End
 
--- the history is a run of this network from its start, so each entry is a transition of the sequential machine; its end is
--- justified; and there are as many entries as receipts
+-- the history is a run of this network, its end is justified, and there are as many entries as receipts
 pub record IsFinish (kinds : Family) (net : Network) (f : FinishView) : Type 0 where
   pub network : f.machine.network ≡ net
   pub run : IsRun kinds net f.machine.history f.machine.state
@@ -35,13 +34,11 @@ StaysWithinCapacities kinds net history = (E F : List Entry) → E ++ F ≡ hist
 abbrev pub SparesBudget : Family → Network → End → Type 0
 SparesBudget kinds net cause = (F : List Entry) (N : State) (b : End) → IsFinal kinds net F N b → length F < net.budget → cause ≢ Budget
 
--- the deeds and the streams of this history and of any run of the network, from any starting capacities, are prefix-comparable
+-- the deeds and streams of this history and of any run, from any starting capacities, are prefix-comparable
 abbrev pub IsComparable : Family → Network → List Entry → Type 0
 IsComparable kinds net history = (sizes : ℕ → ℕ) (F : List Entry) (N : State) → IsRun kinds (resized net sizes) F N → AreAllPrefixComparable net (resized net sizes) history F
 
--- what holds of each run of this network, over or not: no channel is above its capacity at any moment, the run and any other are
--- prefix-comparable, it takes no more room than the network needs, and its streams approach the least solution of the network's
--- equations
+-- what holds of each run of this network, over or not
 pub record KeepsLaws (kinds : Family) (net : Network) (s : MachineView) : Type 0 where
   pub within : StaysWithinCapacities kinds net s.history
   pub comparable : IsComparable kinds net s.history
@@ -54,11 +51,11 @@ pub record IsFinishedRun (kinds : Family) (net : Network) (f : FinishView) : Typ
   pub budget : SparesBudget kinds net f.cause
   pub laws : KeepsLaws kinds net f.machine
 
--- what contracts see of a worker's slot: its seat, and whether an answer of the worker was refused
+-- a worker's slot: its seat, and whether an answer of the worker was refused
 pub record AtSlot : Type 0 where
   pub seat : Shares
   pub refused : Bool
 
--- a worker none of whose answers was refused has met an end
+-- a worker with no answer refused has met an end
 abbrev pub HasMet : AtSlot → Type 0
 HasMet b = b.refused ≡ false → b.seat.overs ≡ 1

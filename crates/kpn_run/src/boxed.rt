@@ -1,4 +1,4 @@
-//! Bodies that stay in their place while their tasks go from the machine to the workers and back.
+//! Bodies that stay in place while their tasks move between the machine and the workers.
 ghost use Rattle.std.specs.Prelude.{◌≡◌, ◌≤◌, ◌+◌, ◌++◌, [], length, vec_capacity, true, IfOk, IfErr, IfSome, IfNone};
 ghost use Rattle.std.specs.VecDeque.{deque_capacity, deque_len};
 
@@ -8,8 +8,7 @@ use std::alloc::{AllocFailed, Global};
 use std::collections::VecDeque;
 use std::marker::Model;
 
-/// A body on the heap, which contracts see as the body. Moving it moves one word, and a worker that calls
-/// it reads it where it lies.
+/// A body on the heap; contracts see the body. A move copies one word, and workers call the body in place.
 #[derive(Drop)]
 pub(crate) struct BoxedBody<B: Body> {
     body: Box<B>,
@@ -24,7 +23,6 @@ impl<B: Body> Model for BoxedBody<B> {
 }
 
 impl<B: Body> BoxedBody<B> {
-    /// Returns the body.
     pub(crate) fn into_inner(self) -> B
         ensures { result ≡ self }
     {
@@ -56,7 +54,7 @@ pub(crate) struct Boxes<B: Body> {
     pub(crate) spare: Vec<B>,
 }
 
-/// Moves bodies to the heap. If memory is refused, they are handed back.
+/// Moves bodies to the heap. Errors: out of memory; returns the bodies.
 pub(crate) fn box_all<B: Body>(alloc: Global, bodies: Vec<B>) -> Result<Boxes<B>, Vec<B>>
     ensures boxed { IfOk result (λ r. r.boxed.items ≡ bodies.items) }
     ensures spare { IfOk result (λ r. r.spare.items ≡ []) }
@@ -78,7 +76,7 @@ pub(crate) fn box_all<B: Body>(alloc: Global, bodies: Vec<B>) -> Result<Boxes<B>
     }
 }
 
-/// Returns bodies that were moved to the heap, in the emptied vector that they came from.
+/// Moves bodies from the heap back into the emptied vector that they came from.
 pub(crate) fn unbox_all<B: Body>(boxed: Vec<BoxedBody<B>>, spare: Vec<B>) -> Vec<B>
     requires empty { spare.items ≡ [] }
     requires room { length boxed.items ≤ vec_capacity spare }
@@ -90,8 +88,7 @@ pub(crate) fn unbox_all<B: Body>(boxed: Vec<BoxedBody<B>>, spare: Vec<B>) -> Vec
     bodies
 }
 
-// Moves bodies to the heap, from the last one on, to the front of those that are there. Returns whether
-// all were moved; if not, memory was refused.
+// Moves bodies to the heap, the last first, to the front of `boxed`. Returns false if out of memory.
 fn box_each<B: Body>(alloc: Global, bodies: &mut Vec<B>, boxed: &mut VecDeque<BoxedBody<B>>) -> bool
     requires { length bodies.old.items + deque_len boxed.old ≤ deque_capacity boxed.old }
     ensures order { bodies.new.items ++ boxed.new.items ≡ bodies.old.items ++ boxed.old.items }
@@ -111,7 +108,6 @@ fn box_each<B: Body>(alloc: Global, bodies: &mut Vec<B>, boxed: &mut VecDeque<Bo
     true
 }
 
-// Appends the bodies that are on the heap to the others.
 fn unbox_each<B: Body>(boxed: &mut VecDeque<BoxedBody<B>>, bodies: &mut Vec<B>)
     requires { length bodies.old.items + deque_len boxed.old ≤ vec_capacity bodies.old }
     ensures { bodies.new.items ≡ bodies.old.items ++ boxed.old.items }

@@ -11,10 +11,9 @@ use kpn_network::Net;
 use kpn_state::{Keeper, Wide};
 use std::marker::Model;
 
-/// A run that has ended: what its machine left behind, its end, and as many receipts as entries.
+/// A run that has ended: its machine's network, history, standings and end, and as many receipts as entries.
 ///
-/// It is made only from a `Closed` that has an end; so its machine was fresh when the monitor was
-/// opened, and each entry was appended by a commit under the lock.
+/// Made only from a `Closed` with an end, so each entry was appended by a commit under the lock.
 #[derive(Drop)]
 pub struct Finish<K: Kinds, H: Keeper = Wide> {
     chronicle: Chronicle<K, H>,
@@ -34,7 +33,6 @@ impl<K: Kinds, H: Keeper> Model for Finish<K, H> {
 }
 
 impl<K: Kinds, H: Keeper> Finish<K, H> {
-    /// `None` if the run has not ended.
     pub(crate) fn of<E: EntryLedger>(closed: Closed<K, E, H>) -> Option<Finish<K, H>>
         ensures { MatchOption result (IsNone closed.machine.end) (λ f. (f.machine ≡ closed.machine) × (f.receipts ≡ closed.receipts) × (closed.machine.end ≡ Some f.cause)) }
     {
@@ -60,7 +58,7 @@ impl<K: Kinds, H: Keeper> Finish<K, H> {
         self.chronicle.net()
     }
 
-    /// Returns what the machine left behind: network, history, standings and end. Its `keeper` has the entries.
+    /// Returns the machine's network, history, standings and end. Its `keeper` has the entries.
     ///
     /// ```text
     /// Ok(finish) => say_told(alloc, finish.chronicle(), channel, sink),
@@ -82,7 +80,7 @@ impl<K: Kinds, H: Keeper> Finish<K, H> {
         self.chronicle.standings()
     }
 
-    /// Returns the sum of the shares of the workers' seats, which is the number of entries.
+    /// Returns the sum of the seats' shares of entries, which is the number of entries.
     ///
     /// ```text
     /// match run(rt, alloc, net, bodies, workers, &Prompt) {
@@ -97,9 +95,8 @@ impl<K: Kinds, H: Keeper> Finish<K, H> {
         self.receipts
     }
 
-    /// Returns how the run ended. The history is a run from the start of the network, and the end is
-    /// justified: `Terminated`, `Deadlock` and `Ceiling` by the state that is reached, `Budget` by the
-    /// number of entries, `Memory` by a growth that was due.
+    /// Returns how the run ended. `Terminated`, `Deadlock` and `Ceiling` are justified by the state reached,
+    /// `Budget` by the number of entries, `Memory` by a growth that was due.
     ///
     /// ```text
     /// let history = finish.history();

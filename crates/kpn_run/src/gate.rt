@@ -1,7 +1,7 @@
-//! Gates, which a worker asks before each commit.
+//! Gates, which a worker calls before each commit.
 
-/// What a worker calls between an answer and its commit, outside the lock. A gate that waits holds its
-/// worker up; it does not change the result.
+/// Called between an answer and its commit, outside the lock. A gate that waits delays its worker; it does
+/// not change the result.
 ///
 /// ```text
 /// impl<'a, R: Wait + Clock + Sync> Gate for Slowly<'a, R> {
@@ -11,11 +11,11 @@
 /// }
 /// ```
 pub trait Gate: Sync {
-    /// Called with the number of the process whose answer is about to be committed.
+    /// Called with the number of the process before its answer is committed.
     fn before_commit(&self, process: usize);
 
-    /// Whether workers may ask bodies under the lock, and then without this gate. That is for bodies that
-    /// wait for nobody: one that waited for another under the lock would wait for ever.
+    /// Whether workers may ask bodies under the lock, without this gate. Not for bodies that wait for others:
+    /// one under the lock would wait forever.
     fn lets_ask_in_place(&self) -> bool {
         false
     }
@@ -29,8 +29,8 @@ impl Gate for Open {
 }
 
 /// The gate that does nothing, for bodies that wait for nobody. While their calls are short, one worker of
-/// `run` asks them under the lock, which is as fast as no lock; while they are longer, all work as by
-/// `Open`. `work` never asks a body under the lock, and takes it as `Open`.
+/// `run` asks them under the lock, which is as fast as no lock. Otherwise, and always in `work`, it is like
+/// `Open`.
 pub struct Prompt;
 
 impl Gate for Prompt {

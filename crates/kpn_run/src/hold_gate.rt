@@ -1,12 +1,10 @@
-//! A gate that makes one process give way to another.
+//! A gate that makes one process wait for another.
 use crate::gate::Gate;
 use std::sync::atomic::{AtomicU64, Ordering};
 
-/// A gate that holds up the answers of one process until another process has passed it a number of
-/// times, or until it has looked a number of times whether it has. With it a test makes a schedule that
-/// would otherwise come about by chance alone; no schedule changes the result of a run.
-///
-/// Nothing is promised of it but that each call returns.
+/// A gate that delays the answers of one process until another has passed it a number of times, or for a
+/// number of looks. Tests make rare schedules with it; no schedule changes the result. It promises only that
+/// each call returns.
 #[derive(Drop)]
 pub struct Hold {
     process: usize,
@@ -18,8 +16,8 @@ pub struct Hold {
 }
 
 impl Hold {
-    /// Makes a gate that holds `process` up until `other` has passed `passes` times, and for at most
-    /// `turns` looks each time. If the two are one process, nothing is held up.
+    /// Makes a gate that delays `process` until `other` has passed `passes` times, with at most `turns` looks
+    /// each time. If the two are one process, nothing is delayed.
     pub fn new(process: usize, other: usize, passes: u64, turns: u64) -> Hold {
         Hold {
             process,
@@ -31,7 +29,6 @@ impl Hold {
         }
     }
 
-    /// Looks at the count of the other process until it has passed often enough or the turns are done.
     fn wait_for_other(&self) {
         for _turn in 0..self.turns {
             if self.other_passed.load(Ordering::SeqCst) >= self.passes {
@@ -42,8 +39,7 @@ impl Hold {
 }
 
 impl Gate for Hold {
-    /// Counts one pass of a process that is one of the two (after 2^64 - 1 the count begins again at
-    /// 0), and then holds it up if it is the one to be held.
+    /// Counts a pass of either process (the count wraps at 2^64), and then delays the one to be held.
     fn before_commit(&self, process: usize) {
         if process == self.other {
             self.other_passed.fetch_add(1, Ordering::SeqCst);

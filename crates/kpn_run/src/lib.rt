@@ -1,4 +1,4 @@
-//! Workers over a monitor, and the run of a network by 1 to 16 of them.
+//! Runs a network with 1 to 16 workers over a monitor.
 //!
 //! ```text
 //! match run(rt, alloc, net, bodies, workers, &Prompt) {
@@ -7,8 +7,8 @@
 //! }
 //! ```
 //!
-//! Whatever the number of workers and their timing, the history of a `Finish` is a run of the
-//! sequential machine from the start of the network (Kahn 1974, Parks 1995).
+//! Whatever the number of workers and their timing, the history of a `Finish` is a run of the sequential
+//! machine from the start of the network (Kahn 1974, Parks 1995).
 #![tactic(auto)]
 
 mod boxed;

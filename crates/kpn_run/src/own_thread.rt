@@ -1,4 +1,4 @@
-//! What a worker does in a thread of a caller's own.
+//! What a worker does in a caller's own thread.
 ghost use Rattle.std.specs.Prelude.{◌≡◌, IfNone};
 
 use crate::gate::Gate;
@@ -8,16 +8,16 @@ use kpn_monitor::{EntryLedger, Monitor, Seat, Taken};
 use std::sync::Wait;
 use std::sync::ledger::Ledger;
 
-/// What a worker hands back: its seat, and the answer that the monitor refused, if there is one.
+/// What a worker returns: its seat, and the answer that the monitor refused, if any.
 #[derive(Drop)]
 pub struct Worked<B: Body, E: EntryLedger, O: Ledger> {
     pub seat: Seat<E, O>,
     pub stranger: Option<Finished<B>>,
 }
 
-/// Takes a task, calls it, asks the gate and commits the answer, again and again, until the run has ended
-/// or an answer is refused. Returns the seat, and the refused answer if there is one; if there is none,
-/// the seat has met an end. It may wait for other workers.
+/// Takes a task, calls it, calls the gate and commits the answer, until the run has ended or an answer is
+/// refused. Returns the seat, which has met an end unless an answer was refused, and the refused answer, if
+/// any. May wait for other workers.
 pub fn work<B: Body, E: EntryLedger, O: Ledger, R: Wait, G: Gate>(
     rt: &R,
     monitor: &Monitor<B, E, O>,
@@ -31,8 +31,8 @@ pub fn work<B: Body, E: EntryLedger, O: Ledger, R: Wait, G: Gate>(
     Worked { seat, stranger }
 }
 
-/// Works as [`work`] does, with a borrowed seat: the caller still has it while other threads work with theirs. Returns
-/// the refused answer; if there is none, the seat has met an end. It may wait for other workers.
+/// Works like [`work`], with a borrowed seat: the caller keeps it while other threads use theirs. Returns the
+/// refused answer, if any.
 pub fn work_with<B: Body, E: EntryLedger, O: Ledger, R: Wait, G: Gate>(
     rt: &R,
     monitor: &Monitor<B, E, O>,
@@ -54,7 +54,6 @@ pub fn work_with<B: Body, E: EntryLedger, O: Ledger, R: Wait, G: Gate>(
     unreachable!()
 }
 
-// Calls a task, asks the gate and commits the answer. Returns the answer if it is refused.
 fn answer<B: Body, E: EntryLedger, O: Ledger, R: Wait, G: Gate>(
     rt: &R,
     monitor: &Monitor<B, E, O>,

@@ -10,14 +10,13 @@ use kpn_model::Kinds;
 use kpn_report::{Report, places_of, report_of};
 use std::alloc::{AllocError, Global};
 
-/// Returns the report of a run: why it ended, and its detail if it came to its own end, which is
-/// exactly if it ended by `Terminated`, `Deadlock` or `Ceiling`. Errors: memory was refused.
+/// Returns why a run ended, and its detail exactly if it ended with `Terminated`, `Deadlock` or `Ceiling`.
+/// Errors: out of memory.
 ///
-/// The detail is that of every run of the network that is over, whatever the schedule and the number of
-/// workers (`every`). If the run terminated or ended in a deadlock, every run that does so too, from
-/// any starting capacities, has the same deeds, streams and places (`any_capacities`; Kahn 1974, Parks
-/// 1995). The streams of the detail are below every solution of the network's equations, and if the
-/// run terminated or ended in a deadlock they are the least solution (`streams`; Kahn 1974,
+/// The detail is that of every run of the network that is over (`every`). If the run terminated or
+/// deadlocked, every run that does so, from any starting capacities, has the same deeds, streams and places
+/// (`any_capacities`; Kahn 1974, Parks 1995). The streams are below every solution of the network's
+/// equations, and are the least solution if the run terminated or deadlocked (`streams`; Kahn 1974,
 /// docs/least-solution.md).
 ///
 /// ```text

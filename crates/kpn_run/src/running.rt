@@ -1,4 +1,4 @@
-//! The run of a network by many workers.
+//! Runs a network with several workers.
 ghost use Rattle.std.specs.Prelude.{◌≡◌, ◌≢◌, ◌<◌, ◌≤◌, ◌⊎◌, [], length, map, vec_capacity, Err, IfOk, IsSome, OnOk};
 ghost use Rattle.kpn_model.specs.Network.{Network as NetV};
 ghost use Rattle.kpn_model.specs.Families.{family};
@@ -31,29 +31,27 @@ use std::sync::Wait;
 use std::sync::ledger::Ledger;
 use std::thread::Threads;
 
-/// Why there was no run.
+/// Why a run failed.
 #[derive(Drop)]
 pub enum RunFault<B: Body> {
-    /// The number of workers is not 1 to 16. Nothing has run, and all is handed back unchanged.
+    /// The number of workers is not 1 to 16. Nothing has run; returns everything unchanged.
     Workers {
         net: Net<B::Kinds>,
         bodies: Vec<B>,
     },
-    /// The bodies are not one for each process, with its card. Nothing has run, and all is handed back
-    /// unchanged.
+    /// The bodies are not one for each process, with its card. Nothing has run; returns everything unchanged.
     Open {
         net: Net<B::Kinds>,
         bodies: Vec<B>,
         fault: OpenFault,
     },
-    /// Memory was refused, and the bodies fit. Nothing has run, and bodies of the right cards are
-    /// handed back in order.
+    /// Out of memory; the bodies fit. Nothing has run; returns bodies with the same cards, in order.
     Memory {
         net: Net<B::Kinds>,
         bodies: Vec<B>,
     },
-    /// The machine refused a worker's answer. That this never happens is not proved: no contract of the
-    /// monitor can name what lies under the lock.
+    /// The machine refused a worker's answer. It is unproved that this never happens: the monitor's contracts
+    /// can't name what the lock guards.
     Lost {
         answered: Answered<B::Kinds>,
         body: B,
@@ -61,7 +59,7 @@ pub enum RunFault<B: Body> {
 }
 
 impl<B: Body> RunFault<B> {
-    /// Returns the number of the fault: 1 to 4, in the order above.
+    /// Returns the fault's number: 1 to 4, in the order above.
     pub fn number(&self) -> u8
         ensures workers { (n : NetV) (bs : _) → self.now ≡ RunFault.Workers n bs → result ≡ 1 }
         ensures open { (n : NetV) (bs : _) (fault : OpenFaultV) → self.now ≡ RunFault.Open n bs fault → result ≡ 2 }
@@ -77,21 +75,20 @@ impl<B: Body> RunFault<B> {
     }
 }
 
-/// Runs a network from its start to an end, by 1 to 16 workers and with a body for each process in
-/// order.
+/// Runs a network from its start to an end, with 1 to 16 workers and a body for each process, in order.
 ///
-/// Clause `finish`: the history is a run of the sequential machine, with as
-/// many entries as the workers have receipts, and its end is justified. `budget`: it does not end by
-/// `Budget` if some run that is over has fewer entries than the budget. `within`: after each
-/// prefix of the history no channel holds more tokens than its capacity. `comparable`: the deeds
-/// of each process, and the streams, in this history and in any run from any starting capacities are
-/// prefix-comparable (Kahn 1974). `room`: if capacity b suffices for the network, no channel of
-/// capacity b or more grows in the run (Parks 1995; docs/least-room.md). `streams`: the streams of
-/// the run are below every solution of the network's equations, and if it terminated or ended in a
-/// deadlock they are the least solution (Kahn 1974; docs/least-solution.md).
+/// - `finish`: the history is a run with as many entries as receipts and a justified end.
+/// - `budget`: the end is not `Budget` if some run that is over has fewer entries than the budget.
+/// - `within`: no channel ever holds more tokens than its capacity.
+/// - `comparable`: deeds and streams are prefix-comparable with those of any run, from any starting
+///   capacities (Kahn 1974).
+/// - `room`: if capacity b suffices for the network, no channel of capacity b or more grows (Parks 1995;
+///   docs/least-room.md).
+/// - `streams`: the streams are below every solution of the network's equations, and are the least solution
+///   if the run terminated or deadlocked (Kahn 1974; docs/least-solution.md).
 ///
-/// The calling thread is one worker, and each other has a thread of its own; if a thread can't be
-/// started, that worker runs in the calling thread. The call returns when all workers have met the end.
+/// The calling thread is one worker. Each other has its own thread, or the calling thread if that can't be
+/// started. Returns when all workers have met the end.
 ///
 /// Errors: see [`RunFault`].
 ///
@@ -125,8 +122,7 @@ pub fn run<B: Body, R: Wait + Clock + Threads + Sync, G: Gate>(
     run_with_keeper::<B, Wide, R, G>(rt, alloc, net, bodies, workers, gate)
 }
 
-/// Runs a network as [`run`] does, with the entries of its history kept by `H`: `Packed` has them in 16 bytes each,
-/// where `run` takes 48.
+/// Runs a network like [`run`], with the entries kept by `H`: `Packed` takes 16 bytes for each, `run` 48.
 ///
 /// ```text
 /// let ran = run_with_keeper::<CardBody<Standard>, Packed, R, Open>(
@@ -158,7 +154,6 @@ pub fn run_with_keeper<B: Body, H: Keeper + Send, R: Wait + Clock + Threads + Sy
     }
 }
 
-/// The fault of a run that failed.
 fn fault_of<B: Body>(failure: Failure<B>) -> RunFault<B>
     ensures workers { (n : NetV) (bs : _) → result ≢ RunFault.Workers n bs }
     ensures open { (n : NetV) (bs : _) (fault : OpenFaultV) → result ≡ RunFault.Open n bs fault → (fault ≢ OpenFault.Memory) × (failure ≡ Failure.NotRun n bs fault) }
@@ -174,8 +169,7 @@ fn fault_of<B: Body>(failure: Failure<B>) -> RunFault<B>
     }
 }
 
-/// Runs a network with each body in a box of its own, so that handing it on is quick; or with the bodies as they are, if
-/// there is no memory for boxes.
+/// Boxes each body so that moving it is quick; leaves the bodies as they are if there is no memory for boxes.
 fn run_boxed<B: Body, H: Keeper + Send, R: Wait + Clock + Threads + Sync, G: Gate>(
     rt: &R,
     alloc: Global,
@@ -199,7 +193,6 @@ fn run_boxed<B: Body, H: Keeper + Send, R: Wait + Clock + Threads + Sync, G: Gat
     }
 }
 
-/// A failure with its bodies in the vector that they came from.
 fn unboxed<B: Body>(failure: Failure<BoxedBody<B>>, spare: Vec<B>) -> Failure<B>
     requires spare { spare.items ≡ [] }
     requires room { (n : NetV) (bs : _) (f : OpenFaultV) → failure ≡ Failure.NotRun n bs f → length bs.items ≤ vec_capacity spare }
@@ -219,7 +212,6 @@ fn unboxed<B: Body>(failure: Failure<BoxedBody<B>>, spare: Vec<B>) -> Failure<B>
     }
 }
 
-/// Runs a network with the bodies as they are.
 fn run_bodies<B: Body, H: Keeper + Send, R: Wait + Clock + Threads + Sync, G: Gate>(
     rt: &R,
     alloc: Global,
@@ -240,7 +232,6 @@ fn run_bodies<B: Body, H: Keeper + Send, R: Wait + Clock + Threads + Sync, G: Ga
     }
 }
 
-/// Runs a network from the opening of its monitor.
 fn run_opened<B: Body, H: Keeper + Send, R: Wait + Clock + Threads + Sync, G: Gate>(
     rt: &R,
     alloc: Global,
@@ -262,7 +253,7 @@ fn run_opened<B: Body, H: Keeper + Send, R: Wait + Clock + Threads + Sync, G: Ga
     }
 }
 
-/// Ghost lemma: what the laws say of a run that has ended.
+/// Ghost lemma: the laws hold of a run that has ended.
 fn told_by_laws<K: Kinds, H: Keeper>(finish: &Finish<K, H>)
     ensures { IsFinishedRun (family K.Kinds) finish.now.machine.network finish.now }
 {
@@ -274,7 +265,7 @@ fn told_by_laws<K: Kinds, H: Keeper>(finish: &Finish<K, H>)
     finish.end();
 }
 
-/// Runs a network from the opening of its monitor, with ledgers that are named.
+/// Generic over the ledgers, so that a call with `Brand` names them.
 fn run_named<
     B: Body,
     H: Keeper + Send,
@@ -315,7 +306,6 @@ fn run_named<
     }
 }
 
-/// The finish of a run that has ended.
 fn finish_of<K: Kinds, E: EntryLedger, H: Keeper>(closed: Closed<K, E, H>) -> Finish<K, H>
     requires closed { IsClosed (family K.Kinds) K.admits E.net closed }
     requires ended { IsSome closed.machine.end }

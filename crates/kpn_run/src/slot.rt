@@ -1,4 +1,4 @@
-//! The seats of the workers of a run.
+//! The seats of a run's workers.
 ghost use Rattle.std.specs.Prelude.{◌≡◌, ◌+◌, ◌<◌, ◌≤◌, ℕ, false, [], length, vec_capacity, is_some, slice_index_or, IfNone};
 ghost use Rattle.std.specs.List.{All, sum_by};
 ghost use Rattle.kpn_monitor.specs.Views.{Shares};
@@ -19,8 +19,7 @@ use std::sync::ledger::Ledger;
 use std::thread;
 use std::thread::Threads;
 
-/// What a worker of a run has: its seat, its hand, and an answer that the monitor refused, if there is
-/// one.
+/// A worker's seat, its hand, and an answer that the monitor refused, if any.
 #[derive(Drop)]
 pub(crate) struct WorkerSlot<B: Body, E: EntryLedger, O: Ledger> {
     seat: Seat<E, O>,
@@ -73,14 +72,12 @@ impl<B: Body, E: EntryLedger, O: Ledger> WorkerSlot<B, E, O> {
     }
 }
 
-/// Hands for workers, at least one.
 #[derive(Drop)]
 pub(crate) struct Hands<B: Body> {
     last: Hand<B>,
     others: Vec<Hand<B>>,
 }
 
-/// Makes a hand for each worker.
 pub(crate) fn hands_for<B: Body, R: Threads>(
     rt: &R,
     alloc: Global,
@@ -98,7 +95,6 @@ pub(crate) fn hands_for<B: Body, R: Threads>(
     })
 }
 
-// Adds a hand for each worker but one.
 fn add_hands<B: Body>(
     alloc: Global,
     workers: usize,
@@ -111,7 +107,6 @@ fn add_hands<B: Body>(
     Ok(())
 }
 
-// A hand of one of so many workers.
 fn hand_for<B: Body>(
     alloc: Global,
     workers: usize,
@@ -140,7 +135,6 @@ pub(crate) fn seat_all<B: Body, E: EntryLedger, O: Ledger>(
     slots.push_reserved(WorkerSlot::new(seat, last));
 }
 
-// Makes a slot for each worker but one.
 fn seat_others<B: Body, E: EntryLedger, O: Ledger>(
     seat: &mut Seat<E, O>,
     workers: usize,
@@ -158,7 +152,7 @@ fn seat_others<B: Body, E: EntryLedger, O: Ledger>(
     }
 }
 
-// Adds a slot, unless there is no hand for it or the seat has only one part left.
+// Adds a slot, unless there is no hand or the seat has only one part left.
 fn seat_one<B: Body, E: EntryLedger, O: Ledger>(
     seat: &mut Seat<E, O>,
     hand: Option<Hand<B>>,
@@ -177,7 +171,6 @@ fn seat_one<B: Body, E: EntryLedger, O: Ledger>(
     }
 }
 
-/// Works at all slots. The calling thread is one worker, and the others are started as threads.
 pub(crate) fn work_all<
     B: Body,
     H: Keeper + Send,
@@ -199,7 +192,7 @@ pub(crate) fn work_all<
     work_each(rt, monitor, orders, slots.as_mut_slice());
 }
 
-// Works at each slot; the clauses tell of one slot after the other.
+// Its clauses speak of one slot at a time.
 fn work_each<
     B: Body,
     H: Keeper + Send,
@@ -220,7 +213,6 @@ fn work_each<
     );
 }
 
-/// Takes the seats out of all slots. Returns an answer that was refused, if there is one.
 pub(crate) fn leave_all<B: Body, E: EntryLedger, O: Ledger>(
     mut slots: Vec<WorkerSlot<B, E, O>>,
     seats: &mut Vec<Seat<E, O>>,

@@ -1,18 +1,18 @@
-//! Who may have the workers of a run stop before its end.
+//! How the workers of a run learn that they should stop before its end.
 ghost use Rattle.std.specs.Prelude.{◌≡◌, Bool, true, false};
 
 use crate::gate::Gate;
 
-/// Says whether the workers of a run are to stop before its end. `may_stop` is false if it never says so.
+/// Whether the workers of a run should stop before its end. `may_stop` is false if they never should.
 pub trait StopSignal: Sync {
     ghost may_stop: { Bool };
 
-    /// Whether the workers are to finish what they hold, and to take nothing more.
+    /// Whether the workers should finish what they hold, and take nothing more.
     fn stops(&self) -> bool
         ensures { result ≡ true → may_stop ≡ true };
 }
 
-/// The signal of a run that goes on to its end.
+/// The signal that never stops a run.
 pub struct NeverStops;
 
 impl StopSignal for NeverStops {
@@ -24,7 +24,7 @@ impl StopSignal for NeverStops {
     }
 }
 
-/// What each worker of a run goes by: the gate that it asks before a commit, and who may have it stop.
+/// What each worker follows: the gate to call before a commit, and the stop signal.
 #[derive(Drop)]
 pub struct Orders<'a, G: Gate, S: StopSignal> {
     pub gate: &'a G,

@@ -14,8 +14,7 @@ use std::sync::Wait;
 use std::sync::ledger::Ledger;
 use std::time::{Duration, Instant};
 
-/// How long the lookout rests at first: at the start of a run, after it was at work and is spare, and
-/// after it found nothing to do, in microseconds.
+/// How long a lookout first rests, in microseconds: at the start of a run, when spare, and when idle.
 const FIRST_REST: u64 = 50;
 
 const SPARE_REST: u64 = 200;
@@ -25,7 +24,7 @@ const IDLE_REST: u64 = 100;
 /// How often a worker pauses between two looks for something to do.
 const PAUSES: u32 = 64;
 
-/// Measures how many nanoseconds have gone by since it was made.
+/// Measures the nanoseconds since it was made.
 #[derive(Clone, Copy)]
 struct Stopwatch {
     start: Option<Instant>,
@@ -38,7 +37,7 @@ impl Stopwatch {
         }
     }
 
-    /// The nanoseconds so far; 0 if the clock can't be read.
+    /// Returns 0 if the clock can't be read.
     fn nanos<R: Clock>(&self, rt: &R) -> u64 {
         let Some(start) = self.start else {
             return 0;
@@ -50,12 +49,10 @@ impl Stopwatch {
     }
 }
 
-/// Calls the tasks of a hand, asks the gate after each, and exchanges the answers for other tasks,
-/// again and again, until the run has ended, an answer is refused, or the workers are to stop; in between it has
-/// bodies asked in place, if the gate lets it and while that is quicker. A worker that is to stop finishes what it holds,
-/// and has the others rest no more.
-/// Returns the refused answer; if there is none, the worker holds nothing, and the seat has met an end unless the signal
-/// may stop. It may wait for other workers.
+/// Calls the tasks of a hand and the gate after each, and exchanges the answers for other tasks, until the
+/// run has ended, an answer is refused, or the workers should stop. In between it asks bodies in place, while
+/// the gate lets it and that is quicker. A worker that should stop finishes what it holds, and lets the
+/// others rest no more. Returns the refused answer, if any.
 pub(crate) fn work_in_rounds<
     B: Body,
     H: Keeper,
@@ -104,8 +101,7 @@ pub(crate) fn work_in_rounds<
     unreachable!()
 }
 
-// Has bodies asked in place while that is quicker and the workers are not to stop. Returns whether the run has ended;
-// the seat has then met its end.
+// Returns whether the run has ended.
 fn ask_in_place<B: Body, H: Keeper, E: EntryLedger, O: Ledger, R: Wait + Clock, S: StopSignal>(
     rt: &R,
     monitor: &Monitor<B, E, O, H>,
@@ -133,7 +129,6 @@ fn ask_in_place<B: Body, H: Keeper, E: EntryLedger, O: Ledger, R: Wait + Clock, 
     unreachable!()
 }
 
-// After an exchange: goes on, pauses or rests.
 #[inline(always)]
 fn go_on<B: Body, H: Keeper, E: EntryLedger, O: Ledger, R: Wait + Clock>(
     rt: &R,
@@ -156,7 +151,6 @@ fn go_on<B: Body, H: Keeper, E: EntryLedger, O: Ledger, R: Wait + Clock>(
     take_turn(rt, monitor, hand, watch, pace, turn);
 }
 
-// Calls all tasks of a hand, and asks the gate after each.
 fn call_all<B: Body, G: Gate>(hand: &mut Hand<B>, gate: &G)
     ensures { hand.new.called ≡ length hand.new.tasks }
 {
@@ -165,7 +159,6 @@ fn call_all<B: Body, G: Gate>(hand: &mut Hand<B>, gate: &G)
     }
 }
 
-// Goes on, pauses or rests.
 fn take_turn<B: Body, H: Keeper, E: EntryLedger, O: Ledger, R: Wait + Clock>(
     rt: &R,
     monitor: &Monitor<B, E, O, H>,

@@ -1,4 +1,4 @@
-//! The workers of a run, from their seats at its start to the close of its monitor.
+//! The workers of a run.
 ghost use Rattle.std.specs.Prelude.{◌≡◌, ◌<◌, ◌≤◌, false, IfOk, IfErr, IsSome};
 ghost use Rattle.std.specs.List.{All};
 ghost use Rattle.kpn_model.specs.Families.{family};
@@ -20,7 +20,7 @@ use std::sync::Wait;
 use std::sync::ledger::Ledger;
 use std::thread::Threads;
 
-/// The workers of a run, whose seats have all parts, and room for the seats when the workers leave.
+/// The workers of a run. Their seats have all parts; `seats` is room for them when the workers leave.
 #[derive(Drop)]
 pub struct Workforce<B: Body, E: EntryLedger, O: Ledger> {
     slots: Vec<WorkerSlot<B, E, O>>,
@@ -39,9 +39,9 @@ impl<B: Body, E: EntryLedger, O: Ledger> Model for Workforce<B, E, O> {
     ghost invariant = { λ w. (sum_by (λ (b : AtSlot). b.seat.parts) w.slots.items ≡ 65536) × (0 < length w.slots.items) × (length w.slots.items ≤ vec_capacity w.seats) × (w.seats.items ≡ []) };
 }
 
-/// Opens the monitor of a run and seats its workers, so many, from 1 to 16. Takes all memory that they need.
+/// Opens the monitor of a run and seats `workers` workers, 1 to 16. Takes all the memory they need.
 ///
-/// Errors: memory was refused. The machine is handed back as it was.
+/// Errors: out of memory. Returns the machine unchanged.
 pub fn seat_workers<
     B: Body,
     H: Keeper,
@@ -77,8 +77,8 @@ pub fn seat_workers<
 }
 
 impl<B: Body, E: EntryLedger + Send + Sync, O: Ledger + Send + Sync> Workforce<B, E, O> {
-    /// Has all workers work until the run has ended, an answer of each is refused, or they are to stop. The calling thread is
-    /// one of them, and the others are started as threads; if a thread can't be started, the calling thread does its work.
+    /// Has all workers work until the run has ended, each has had an answer refused, or they should stop. The
+    /// calling thread is one worker, and does the work of each thread that can't be started.
     pub fn work<H: Keeper + Send, R: Wait + Clock + Threads + Sync, G: Gate, S: StopSignal>(
         &mut self,
         rt: &R,
@@ -92,7 +92,7 @@ impl<B: Body, E: EntryLedger + Send + Sync, O: Ledger + Send + Sync> Workforce<B
 
     /// Takes the seats back and closes the monitor.
     ///
-    /// Errors: the machine did not ask for an answer of a worker, which is handed back.
+    /// Errors: the machine did not ask for a worker's answer. Returns the answer.
     pub fn close<H: Keeper>(
         self,
         monitor: Monitor<B, E, O, H>,

@@ -1,4 +1,4 @@
--- What stands before the records of a file: the head of a WAV file, or a row of names.
+-- The head of a file: that of a WAV file, or a row of names.
 use Rattle.std.specs.Prelude.{◌≡◌, ◌<◌, ◌≤◌, ◌+◌, ◌-◌, ◌*◌, ◌%◌, ◌^◌, ◌==◌, ◌&&◌, ◌||◌, ℕ, Bool, true, false, bytes_eq, codes, drop, length, min, nat_le, position, take, if◌then◌else◌, List, [], ◌∷◌, Option, Some, None, Result, Ok, Err}
 use Rattle.std.specs.List.{flat_map}
 use Rattle.std.specs.Str.{is_utf8, trim}
@@ -23,26 +23,26 @@ use Rattle.kpn_tokens.specs.declared.layouts.RecordFault.TheVariants.{NoField}
 use Rattle.kpn_tokens.specs.Rows.{separator_byte}
 use Rattle.kpn_tokens.specs.Samples.{bytes_in}
 
--- the number of so many bytes at a place, the lowest first; and whether these letters stand there
+-- a little-endian number of n bytes; and whether these letters are at a place
 abbrev pub number_at : ℕ → ℕ → List ℕ → ℕ
 number_at n place bytes = little_number n (drop place bytes)
 
 abbrev pub has_letters : List ℕ → ℕ → List ℕ → Bool
 has_letters letters place bytes = bytes_eq (take 4 (drop place bytes)) letters
 
--- a chunk: four letters, how many bytes it has, and these, to which one is added if they are odd
+-- a chunk: four letters, its number of bytes, and these, padded to even
 abbrev pub chunk_size : ℕ → List ℕ → ℕ
 chunk_size place bytes = number_at 4 (place + 4) bytes
 
 abbrev pub after_chunk : ℕ → List ℕ → ℕ
 after_chunk place bytes = place + 8 + chunk_size place bytes + chunk_size place bytes % 2
 
--- of the chunks from one place on, the first with these letters stands at another place
+-- from one place on, the first chunk with these letters is at another
 pub data Finds (bytes letters : List ℕ) : ℕ → ℕ → Type 0 where
   here : {place : ℕ} → place + 8 ≤ length bytes → has_letters letters place bytes ≡ true → Finds bytes letters place place
   later : {place found : ℕ} → place + 8 ≤ length bytes → has_letters letters place bytes ≡ false → Finds bytes letters (after_chunk place bytes) found → Finds bytes letters place found
 
--- a WAV file: its chunks stand after twelve bytes. One tells the format, and one has the samples
+-- a WAV file: its chunks come after twelve bytes; one has the format, and one the samples
 abbrev pub is_wav : List ℕ → Bool
 is_wav bytes = has_letters (codes "RIFF") 0 bytes && has_letters (codes "WAVE") 8 bytes
 
@@ -52,7 +52,7 @@ FormatAt bytes place = Finds bytes (codes "fmt ") 12 place
 abbrev pub SamplesAt : List ℕ → ℕ → Type 0
 SamplesAt bytes place = Finds bytes (codes "data") 12 place
 
--- the format is PCM, or the extensible form of it
+-- the format is PCM, or its extensible form
 abbrev pub is_pcm : ℕ → List ℕ → Bool
 is_pcm format bytes =
     (number_at 2 (format + 8) bytes == 1) || ((number_at 2 (format + 8) bytes == 0xFFFE) && (nat_le 26 (chunk_size format bytes) && (number_at 2 (format + 32) bytes == 1)))
@@ -60,16 +60,16 @@ is_pcm format bytes =
 abbrev pub width_of : ℕ → Option Width
 width_of bits = if bits == 8 then Some One else if bits == 16 then Some Two else if bits == 24 then Some Three else if bits == 32 then Some Four else None
 
--- the width, if a frame has just one sample of it for each channel
+-- the width, if a frame has exactly one sample of it for each channel
 abbrev pub if_filled : ℕ → List ℕ → Option Width → Option Width
 if_filled format bytes None = None
 if_filled format bytes (Some width) = if number_at 2 (format + 10) bytes * bytes_in width == number_at 2 (format + 20) bytes then Some width else None
 
--- the width of samples that a format tells of, if they are PCM
+-- the sample width of a format, if it is PCM
 abbrev pub width_told : ℕ → List ℕ → Option Width
 width_told format bytes = if nat_le 16 (chunk_size format bytes) && is_pcm format bytes then if_filled format bytes (width_of (number_at 2 (format + 22) bytes)) else None
 
--- samples of 8 bits count from the least on, and wider ones are two's complement
+-- samples of 8 bits are offset, wider ones are two's complement
 abbrev pub wav_coding : Width → Coding
 wav_coding One = Offset
 wav_coding Two = Signed
@@ -80,11 +80,11 @@ wav_coding Eight = Signed
 abbrev pub wav_sample : Width → Sample
 wav_sample width = record { width = width; coding = wav_coding width; endian = Little; clips = false }
 
--- how many bytes the samples have: to the end of the file, if it is not told
+-- how many bytes the samples have; `None`: to the end of the file
 abbrev pub size_told : ℕ → Option ℕ
 size_told n = if (n == 0) || (n == 0xFFFFFFFF) then None else Some n
 
--- the head of a WAV file: the format is told before the samples, and these begin after no more than so many bytes
+-- the head of a WAV file: the format comes before the samples, and these begin near enough
 pub record IsWavHead (bytes : List ℕ) (head : WavHead) : Type 0 where
   pub wav : is_wav bytes ≡ true
   pub format : ℕ
@@ -101,8 +101,8 @@ pub record IsWavHead (bytes : List ℕ) (head : WavHead) : Type 0 where
   pub start : head.start ≡ samples + 8
   pub size : head.size ≡ size_told (chunk_size samples bytes)
 
--- why there is none: it does not begin so; it tells another format, or none before its samples; or these do not begin, and no more bytes
--- come; or they begin after too many
+-- why there is none: the file does not begin like this; another format, or none before the samples; these do
+-- not begin, and no more bytes come; or they begin too late
 abbrev pub IsWavFault : List ℕ → Bool → WavFault → Type 0
 IsWavFault bytes last NotWav = is_wav bytes ≡ false
 IsWavFault bytes last NotPcm = (format : ℕ) × FormatAt bytes format × (width_told format bytes ≡ None)
@@ -119,17 +119,17 @@ IsWavResult bytes last (Ok (Some head)) = IsWavHead bytes head
 IsWavResult bytes last (Ok None) = IsWavWanting bytes last
 IsWavResult bytes last (Err fault) = IsWavFault bytes last fault
 
--- the frames of a channel: what stands before its sample, and after it
+-- the frames of a channel: what is before its sample, and after it
 abbrev pub IsFrameOf : WavHead → ℕ → Frame → Type 0
 IsFrameOf head channel frame =
     (channel < head.channels) × (frame ≡ record { before = channel * bytes_in head.sample.width; sample = head.sample; after = (head.channels - 1 - channel) * bytes_in head.sample.width })
 
--- how many bytes so many frames have, of so many each; the greatest number if that is not known, or is more
+-- how many bytes the frames have; at most 2 ^ 32 - 1, also for an unknown number
 abbrev pub body_size : Option ℕ → ℕ → ℕ
 body_size None block = 2 ^ 32 - 1
 body_size (Some frames) block = min (frames * block) (2 ^ 32 - 1)
 
--- a number of a head as bytes, the lowest first; and the number that four letters are
+-- a number as little-endian bytes; and four letters as a number
 abbrev pub number_bytes : HeadNumber → List ℕ
 number_bytes (Short n) = little_bytes 2 n
 number_bytes (Long n) = little_bytes 4 n
@@ -137,7 +137,7 @@ number_bytes (Long n) = little_bytes 4 n
 abbrev pub letters : List ℕ → HeadNumber
 letters text = Long (little_number 4 text)
 
--- the head of a WAV file with so many channels, samples of so many bytes, so many frames a second, and so many bytes of samples
+-- the head of a WAV file with `size` bytes of samples
 abbrev pub wav_numbers : ℕ → ℕ → ℕ → ℕ → List HeadNumber
 wav_numbers channels width rate size =
     letters (codes "RIFF") ∷ Long (min (size + size % 2 + 36) (2 ^ 32 - 1)) ∷ letters (codes "WAVE") ∷ letters (codes "fmt ") ∷ Long 16 ∷ Short 1 ∷ Short channels ∷ Long rate
@@ -154,12 +154,12 @@ abbrev pub place_found : Option ℕ → Result ℕ RecordFault
 place_found None = Err NoField
 place_found (Some place) = Ok place
 
--- the place of the column of this name in the row of a line
+-- the place of the column with this name in a row
 abbrev pub column_in : List ℕ → Result (Option (List (List ℕ))) RecordFault → Result ℕ RecordFault
 column_in name (Err fault) = Err fault
 column_in name (Ok None) = Err NoField
 column_in name (Ok (Some row)) = place_found (position (is_name name) row)
 
--- how a row of names is written
+-- the writer of a row of names
 abbrev pub names_writer : Separator → WriterBuilder
 names_writer separator = with_delimiter default_writer (separator_byte separator)

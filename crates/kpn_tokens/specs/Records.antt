@@ -1,4 +1,4 @@
--- Files of records: where one ends, what it says, and how a token is written in one.
+-- Files of records: where one ends, what it says, and how it writes a token.
 use Rattle.std.specs.Prelude.{◌≡◌, ◌<◌, ◌≤◌, ◌==◌, ◌^◌, ◌++◌, ◌⊎◌, ℕ, suc, Bool, true, false, codes, drop, length, not, take, if◌then◌else◌, List, [], ◌∷◌, Option, Some, None, IfSome, Result, Ok, Err, IfOk, ⊤}
 use Rattle.std.specs.List.{after_first, before_first, count_by, flat_map, position, position_or_len}
 use Rattle.std.specs.Str.{is_utf8, trim}
@@ -29,7 +29,7 @@ rest (Lines decimals) text = after_first is_line_feed text
 rest (Fields column) text = after_first is_line_feed text
 rest (Frames frame) text = drop (frame_size frame) text
 
--- what a line says: its first column, up to a comment and to a comma, without the blanks around it
+-- the first column, up to a comment and to a comma, without surrounding blanks
 abbrev pub cell : List ℕ → List ℕ
 cell line = trim (before_first (λ b. b == 44) (before_first (λ b. b == 35) line))
 
@@ -40,40 +40,39 @@ cell_said decimals sort (b ∷ bs) = token_said decimals sort (b ∷ bs)
 abbrev pub text_said : Decimals → Sort → List ℕ → Result (Option Token) RecordFault
 text_said decimals sort line = if is_utf8 line then cell_said decimals sort (cell line) else Err NoText
 
--- what a record says: a token, or nothing, or what is wrong with it. A byte order mark before a line counts for nothing
+-- what a record says: a token, nothing, or a fault; a byte order mark before a line is ignored
 abbrev pub record_said : Layout → Sort → List ℕ → Result (Option Token) RecordFault
 record_said (Lines decimals) sort bytes = text_said decimals sort (strip_bom bytes)
 record_said (Fields column) sort bytes = row_said column sort (row_in column.separator bytes)
 record_said (Frames frame) sort bytes = frame_said frame sort bytes
 
--- what was said is a token of the sort, or nothing, or a fault
+-- the result is a token of the sort, or nothing, or a fault
 abbrev pub IsSaidOf : Sort → Result (Option Token) RecordFault → Type 0
 IsSaidOf sort said = IfOk said (λ o. IfSome o (IsOfSort sort))
 
--- the token of a record, as a list
 abbrev pub listed : Option Token → List Token
 listed None = []
 listed (Some token) = token ∷ []
 
--- the records of a text say these tokens, in order; a last line needs no line feed
+-- the records of a text have these tokens; the last line needs no line feed
 pub data Say (layout : Layout) (sort : Sort) : List ℕ → List Token → Type 0 where
   nothing : {text : List ℕ} → length text ≡ 0 → Say layout sort text []
   next : {text : List ℕ} {tokens : List Token} (said : Option Token) → 0 < length text → record_said layout sort (first layout text) ≡ Ok said
       → Say layout sort (rest layout text) tokens → Say layout sort text (listed said ++ tokens)
 
--- the first records of a text say these tokens
+-- the first records of a text have these tokens
 pub data Begin (layout : Layout) (sort : Sort) : List ℕ → List Token → Type 0 where
   stop : {text : List ℕ} → Begin layout sort text []
   more : {text : List ℕ} {tokens : List Token} (said : Option Token) → 0 < length text → record_said layout sort (first layout text) ≡ Ok said
       → Begin layout sort (rest layout text) tokens → Begin layout sort text (listed said ++ tokens)
 
--- the first record of a text that says something else, counted from 1, and what is wrong with it
+-- the first record with a fault, counted from 1, and the fault
 pub data Fails (layout : Layout) (sort : Sort) : List ℕ → ℕ → RecordFault → Type 0 where
   here : {text : List ℕ} {fault : RecordFault} → 0 < length text → record_said layout sort (first layout text) ≡ Err fault → Fails layout sort text 1 fault
   later : {text : List ℕ} {number : ℕ} {fault : RecordFault} (said : Option Token) → 0 < length text → record_said layout sort (first layout text) ≡ Ok said
       → Fails layout sort (rest layout text) number fault → Fails layout sort text (suc number) fault
 
--- the first record is there to its end: no more bytes come, or its line feed or its last byte is there
+-- the first record is complete; or no more bytes come
 abbrev pub IsEnded : Layout → List ℕ → Type 0
 IsEnded (Lines decimals) text = position_or_len is_line_feed text < length text
 IsEnded (Fields column) text = position_or_len is_line_feed text < length text
@@ -82,7 +81,7 @@ IsEnded (Frames frame) text = frame_size frame ≤ length text
 abbrev pub IsWhole : Layout → List ℕ → Bool → Type 0
 IsWhole layout text last = (last ≡ true) ⊎ IsEnded layout text
 
--- where the first record ends, and how many bytes it takes with its line feed
+-- where the first record ends, without and with its line feed
 pub record IsCut (layout : Layout) (text : List ℕ) (last : Bool) (cut : Cut) : Type 0 where
   pub ends : cut.length ≡ length (first layout text)
   pub taken : take cut.length text ≡ first layout text
@@ -97,39 +96,36 @@ record_text (Lines decimals) token = token_text decimals token ++ codes "\n"
 record_text (Fields column) token = field_text column token ++ codes "\n"
 record_text (Frames frame) token = frame_text frame token
 
--- the record of a token says it, and not the nearest that there is a sample for
+-- the record of a token has it, and not the nearest
 abbrev pub fits : Layout → Token → Bool
 fits (Lines decimals) token = true
 fits (Fields column) token = true
 fits (Frames frame) token = has_sample frame.sample token
 
--- how many tokens do not fit
 abbrev pub misfits : Layout → List Token → ℕ
 misfits layout tokens = count_by (λ token. not (fits layout token)) tokens
 
--- a token that does not fit may be written as the nearest that does
 abbrev pub clips : Layout → Bool
 clips (Lines decimals) = false
 clips (Fields column) = false
 clips (Frames frame) = frame.sample.clips
 
--- a token of the sort, whose word has 64 bits
+-- a token of the sort, with a word of 64 bits
 abbrev pub IsOf : Sort → Token → Type 0
 IsOf Words (Word n) = n < 2 ^ 64
 IsOf Words (Flag b) = ⊥
 IsOf Flags (Word n) = ⊥
 IsOf Flags (Flag b) = ⊤
 
--- tokens of the sort that fit
 abbrev pub AllFit : Layout → Sort → List Token → Type 0
 AllFit layout sort [] = ⊤
 AllFit layout sort (token ∷ tokens) = IsOf sort token × (fits layout token ≡ true) × AllFit layout sort tokens
 
--- what is written of tokens that fit is read as these tokens
+-- written tokens that fit are read back unchanged
 abbrev pub ReadsBack : Layout → Type 0
 ReadsBack layout = (sort : Sort) (tokens : List Token) → AllFit layout sort tokens → Say layout sort (flat_map (record_text layout) tokens) tokens
 
--- the token at this place is the first that does not fit, and those before it were appended
+-- the token at this place is the first that does not fit; those before it were appended
 pub record IsRefused (layout : Layout) (old new : List ℕ) (tokens : List Token) (place : ℕ) : Type 0 where
   pub unclipped : clips layout ≡ false
   pub first_misfit : position (λ token. not (fits layout token)) tokens ≡ Some place

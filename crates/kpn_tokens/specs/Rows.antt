@@ -32,11 +32,11 @@ separator_byte Tab = 9
 abbrev pub config_of : Separator → Config
 config_of separator = record default_config { delimiter = separator_byte separator }
 
--- the rows of a line: none if it is blank, and else one, unless a carriage return within it ends a row
+-- the rows of a line: none if it is blank, more than one if a carriage return within it ends a row
 abbrev pub rows_of : Separator → List ℕ → List (List (List ℕ))
 rows_of separator line = records (config_of separator) (strip_bom (line ++ 10 ∷ []))
 
--- a reader is at the beginning of a line of fields, and has nothing else
+-- a reader at the beginning of a line of fields, with nothing else
 pub record IsAtLine (separator : Separator) (line : List ℕ) (reader : Reader (Bor (List ℕ))) : Type 0 where
   pub config : reader_config reader ≡ config_of separator
   pub trim : reader_trim reader ≡ trim.None
@@ -44,14 +44,14 @@ pub record IsAtLine (separator : Separator) (line : List ℕ) (reader : Reader (
   pub state : reader_state reader ≡ st.StartRecord
   pub source : source_of (λ bytes. Some bytes.now) reader ≡ Some (strip_bom (line ++ 10 ∷ []))
 
--- a field goes on over the end of the line
+-- a field continues past the end of the line
 abbrev pub is_open_field : List ℕ → Bool
 is_open_field field = list_any is_line_feed field
 
 abbrev pub is_open : List (List ℕ) → Bool
 is_open row = list_any is_open_field row
 
--- what a text in a field says, without the blanks around it
+-- what the text of a field says, without surrounding blanks
 abbrev pub filled_said : Decimals → Sort → List ℕ → Result (Option Token) RecordFault
 filled_said decimals sort [] = Err EmptyField
 filled_said decimals sort (b ∷ bs) = token_said decimals sort (b ∷ bs)
@@ -75,21 +75,20 @@ seen_row (Ok None) = Ok None
 seen_row (Ok (Some row)) = Ok (Some (fields_of row))
 seen_row (Err fault) = Err fault
 
--- what a row says: the field of the column
+-- what the field of the column says
 abbrev pub row_said : Column → Sort → Result (Option (List (List ℕ))) RecordFault → Result (Option Token) RecordFault
 row_said column sort (Err fault) = Err fault
 row_said column sort (Ok None) = Ok None
 row_said column sort (Ok (Some row)) = field_said column.decimals sort (field_at row column.place)
 
--- a token in the field of its column; those before it are empty
+-- a token in the field of its column, after empty ones
 abbrev pub field_text : Column → Token → List ℕ
 field_text column token = replicate column.place (separator_byte column.separator) ++ token_text column.decimals token
 
--- cells with a separator between them, an absent token as an empty field
+-- cells with a separator between them, and an empty field for an absent token
 abbrev pub cell_text : Cell → List ℕ
 cell_text cell = option_map_or (token_text cell.decimals) cell.token []
 
--- what stands before the cell at a place
 abbrev pub separator_before : Separator → ℕ → List ℕ
 separator_before separator place = if place == 0 then [] else separator_byte separator ∷ []
 

@@ -16,7 +16,7 @@ use Rattle.kpn_tokens.specs.declared.layouts.Width.TheVariants.{One, Two, Three,
 use Rattle.kpn_tokens.specs.declared.layouts.RecordFault.{RecordFault}
 use Rattle.kpn_tokens.specs.declared.layouts.RecordFault.TheVariants.{NotAFlag, CutShort}
 
--- how many bytes a sample has, and how many numbers there are of so many bytes, or half as many
+-- how many bytes a sample has, how many numbers of that width there are, and half of these
 abbrev pub bytes_in : Width → ℕ
 bytes_in One = 1
 bytes_in Two = 2
@@ -30,7 +30,7 @@ numbers_of width = 256 ^ bytes_in width
 abbrev pub half_of : Width → ℕ
 half_of width = 2 ^ (8 * bytes_in width - 1)
 
--- the number that the first bytes say, so many
+-- the number in the first n bytes
 abbrev pub number_in : Endian → ℕ → List ℕ → ℕ
 number_in Little n bytes = little_number n bytes
 number_in Big n bytes = big_number n bytes
@@ -39,7 +39,7 @@ abbrev pub bytes_of : Endian → ℕ → ℕ → List ℕ
 bytes_of Little n x = little_bytes n x
 bytes_of Big n x = big_bytes n x
 
--- the word for a number: itself; or, as two's complement, it less all numbers if its first bit is set; or it less half of them
+-- the word for a number: itself; two's complement; or offset by half of all numbers
 abbrev pub word_from : Coding → Width → ℕ → ℕ
 word_from Unsigned width n = n
 word_from Signed width n = if nat_lt n (half_of width) then n else n + (2 ^ 64 - numbers_of width)
@@ -51,13 +51,13 @@ number_for Unsigned width word = word
 number_for Signed width word = word % numbers_of width
 number_for Offset width word = (word + half_of width) % 2 ^ 64
 
--- there is a number for the word
+-- the word has a number
 abbrev pub is_fit : Coding → Width → ℕ → Bool
 is_fit Unsigned width word = nat_lt word (numbers_of width)
 is_fit Signed width word = nat_lt word (half_of width) || nat_le (2 ^ 64 - half_of width) word
 is_fit Offset width word = nat_lt word (half_of width) || nat_le (2 ^ 64 - half_of width) word
 
--- the word that there is a number for and that is the nearest: from 2 ^ 63 on a word that does not fit stands for a number below zero
+-- the nearest word with a number; one from 2 ^ 63 on that does not fit is below zero
 abbrev pub least : Coding → Width → ℕ
 least Unsigned width = 0
 least Signed width = 2 ^ 64 - half_of width
@@ -72,7 +72,7 @@ abbrev pub nearest : Coding → Width → ℕ → ℕ
 nearest coding width word =
     if is_fit coding width word then word else if nat_lt word (2 ^ 63) then greatest coding width else least coding width
 
--- a flag stands for 0 or 1
+-- a flag is 0 or 1
 abbrev pub word_for : Token → ℕ
 word_for (Word n) = n
 word_for (Flag false) = 0
@@ -82,30 +82,28 @@ abbrev pub token_for : Sort → ℕ → Result (Option Token) RecordFault
 token_for Words n = Ok (Some (Word n))
 token_for Flags n = if n == 0 then Ok (Some (Flag false)) else if n == 1 then Ok (Some (Flag true)) else Err NotAFlag
 
--- what the first bytes say, as a sample
 abbrev pub sample_said : Sample → Sort → List ℕ → Result (Option Token) RecordFault
 sample_said sample sort bytes = token_for sort (word_from sample.coding sample.width (number_in sample.endian (bytes_in sample.width) bytes))
 
--- the sample of a word, or of the nearest that there is one for
+-- the sample of a word, or of the nearest that has one
 abbrev pub word_sample : Sample → ℕ → List ℕ
 word_sample sample word = bytes_of sample.endian (bytes_in sample.width) (number_for sample.coding sample.width (nearest sample.coding sample.width word))
 
--- there is a sample for the token
 abbrev pub has_sample : Sample → Token → Bool
 has_sample sample token = is_fit sample.coding sample.width (word_for token)
 
--- how many bytes a frame has, and what one says
+-- how many bytes a frame has, and its token
 abbrev pub frame_size : Frame → ℕ
 frame_size frame = frame.before + bytes_in frame.sample.width + frame.after
 
 abbrev pub frame_said : Frame → Sort → List ℕ → Result (Option Token) RecordFault
 frame_said frame sort bytes = if nat_lt (length bytes) (frame_size frame) then Err CutShort else sample_said frame.sample sort (drop frame.before bytes)
 
--- a token in its frame, where all else is 0
+-- a token in its frame; all else is 0
 abbrev pub frame_text : Frame → Token → List ℕ
 frame_text frame token = replicate frame.before 0 ++ word_sample frame.sample (word_for token) ++ replicate frame.after 0
 
--- the word for a token of a channel, and its sample; an absent one stands for 0
+-- the word for a token of a channel, and its sample; 0 if absent
 abbrev pub channel_word : Option Token → ℕ
 channel_word None = 0
 channel_word (Some token) = word_for token

@@ -1,4 +1,4 @@
--- Files in which several channels stand side by side.
+-- Files with several channels side by side.
 use Rattle.std.specs.Prelude.{◌≡◌, ◌<◌, ◌-◌, ◌*◌, ◌++◌, ℕ, zero, suc, false, codes, drop, get_or, length, map, max, List, [], ◌∷◌, Option, Some, None}
 use Rattle.std.specs.List.{AllByRecursion, flat_map, slice_get}
 use Rattle.kpn_model.specs.declared.token.Sort.{Sort}
@@ -14,17 +14,17 @@ use Rattle.kpn_tokens.specs.Records.{AllFit, Say}
 use Rattle.kpn_tokens.specs.Rows.{cells_text}
 use Rattle.kpn_tokens.specs.Samples.{bytes_in, channel_text}
 
--- a row: a line of fields, an absent token as an empty one; or a frame of samples, an absent token as the one of 0
+-- a line of fields, empty for an absent token; or a frame of samples, 0 for an absent token
 abbrev pub row_text : Table → List Cell → List ℕ
 row_text (Rows separator) cells = cells_text separator cells ++ codes "\n"
 row_text (Samples sample) cells = flat_map (λ cell. channel_text sample cell.token) cells
 
--- the column at a place of so many, by itself
+-- one column of `count`, by itself
 abbrev pub column_layout : Table → ℕ → ℕ → Decimals → Layout
 column_layout (Rows separator) count place decimals = Fields (record { place = place; separator = separator; decimals = decimals })
 column_layout (Samples sample) count place decimals = Frames (record { before = place * bytes_in sample.width; sample = sample; after = (count - 1 - place) * bytes_in sample.width })
 
--- the tokens of a channel, and how a word of them is written
+-- the tokens of a channel, and how it writes a word
 pub record ColumnView : Type 0 where
   pub decimals : Decimals
   pub tokens : List Token
@@ -35,7 +35,6 @@ column_of c = record { decimals = c.decimals; tokens = c.tokens.now }
 abbrev pub no_column : ColumnView
 no_column = record { decimals = record { digits = 0; is_unsigned = false }; tokens = [] }
 
--- the first token of a column, if it has one
 abbrev pub first_of : List Token → Option Token
 first_of [] = None
 first_of (token ∷ tokens) = Some token
@@ -43,14 +42,13 @@ first_of (token ∷ tokens) = Some token
 abbrev pub first_cell : ColumnView → Cell
 first_cell column = record { decimals = column.decimals; token = first_of column.tokens }
 
--- the token at a place of a column, if it has it
 abbrev pub cell_at : ℕ → ColumnView → Cell
 cell_at place column = record { decimals = column.decimals; token = slice_get column.tokens place }
 
 abbrev pub below : ColumnView → ColumnView
 below column = record { decimals = column.decimals; tokens = drop 1 column.tokens }
 
--- the first rows of columns, so many: first the first token of each column, which is absent where a column has none
+-- the first n rows; a token is absent where a column has none
 abbrev pub rows : ℕ → List ColumnView → List (List Cell)
 rows zero columns = []
 rows (suc n) columns = map first_cell columns ∷ rows n (map below columns)
@@ -58,7 +56,6 @@ rows (suc n) columns = map first_cell columns ∷ rows n (map below columns)
 abbrev pub rows_text : Table → ℕ → List ColumnView → List ℕ
 rows_text table n columns = flat_map (row_text table) (rows n columns)
 
--- as many rows as the longest column has tokens
 abbrev pub longest : List ColumnView → ℕ
 longest [] = 0
 longest (column ∷ columns) = max (length column.tokens) (longest columns)
@@ -66,13 +63,13 @@ longest (column ∷ columns) = max (length column.tokens) (longest columns)
 abbrev pub table_text : Table → List ColumnView → List ℕ
 table_text table columns = rows_text table (longest columns) columns
 
--- so many tokens of one sort, which fit
+-- n tokens of one sort, which fit
 pub record IsFilled (table : Table) (n : ℕ) (column : ColumnView) : Type 0 where
   pub sort : Sort
   pub fit : AllFit (column_layout table 1 0 column.decimals) sort column.tokens
   pub filled : length column.tokens ≡ n
 
--- what is written of columns of tokens that fit, all of one length, is read in each column as its tokens
+-- written columns of tokens that fit, all of one length, are read back unchanged
 abbrev pub ReadsColumnsBack : Table → Type 0
 ReadsColumnsBack table =
     (n : ℕ) (columns : List ColumnView) (place : ℕ) (sort : Sort) → AllByRecursion (IsFilled table n) columns → place < length columns

@@ -1,4 +1,4 @@
--- Lines of decimal digits alone.
+-- Lines of only decimal digits.
 use Rattle.std.specs.Prelude.{◌≡◌, ◌<◌, ◌≤◌, ℕ, List, length, slice_index, take, Ok, Some}
 use Rattle.std.specs.List.{before_first, position_or_len}
 use Rattle.std.specs.Str.Parse.{IsNumeral, digits_value}
@@ -9,7 +9,7 @@ use Rattle.kpn_tokens.specs.declared.layouts.Decimals.{Decimals}
 use Rattle.kpn_tokens.specs.Records.{text_said}
 use Rattle.kpn_tokens.specs.Rows.{is_line_feed}
 
--- the first line of a text has so many bytes, at most 18, all of them digits, and they say this number
+-- the first line has `count` bytes, at most 18, all digits of this number
 pub record IsNumberLine (text : List ℕ) (count number : ℕ) : Type 0 where
   pub digits : IsNumeral 10 (take count text)
   pub few : count ≤ 18
@@ -17,7 +17,7 @@ pub record IsNumberLine (text : List ℕ) (count number : ℕ) : Type 0 where
   pub within : count < length text
   pub ended : slice_index text count ≡ 10
 
--- the first line of a text has so many bytes, and says this word, if words are whole
+-- the first line has `count` bytes, and this word, if words are whole
 pub record IsWordLine (text : List ℕ) (count word : ℕ) : Type 0 where
   pub ends : count ≡ position_or_len is_line_feed text
   pub within : count < length text

@@ -1,4 +1,4 @@
-//! Tokens written as records.
+//! Writes tokens as records.
 ghost use Rattle.std.specs.Prelude.{◌≡◌, ◌++◌, ℕ, false, not, Err, IfErr, IfOk, OnOk, replicate, Some};
 ghost use Rattle.std.specs.List.{flat_map, position};
 ghost use Rattle.kpn_tokens.specs.Records.{IsRefused, clips, fits, misfits, record_text};
@@ -11,8 +11,7 @@ use crate::samples::{append_sample, is_word_fit, word_of_token};
 use kpn_model::Token;
 use std::alloc::AllocError;
 
-/// Why tokens were not written: the sample has no number for the token at this place, counted from 0; or
-/// memory was refused.
+/// Why tokens were not written: the token at this place, counted from 0, has no sample; or out of memory.
 #[derive(Clone, Copy, Debug, PartialEq, Eq)]
 pub enum AppendFault {
     DoesNotFit { place: usize },
@@ -29,11 +28,11 @@ impl From<AllocError> for AppendFault {
     }
 }
 
-/// Appends tokens, each as a record, as [`read_tokens`](crate::read_tokens) reads them. Returns how many did
-/// not fit and were written as the nearest that does.
+/// Appends each token as a record for [`read_tokens`](crate::read_tokens). Returns how many did not fit and
+/// were written as the nearest that does.
 ///
-/// Errors: see [`AppendFault`]. The tokens before one that does not fit have been appended; if memory was
-/// refused, some may have been.
+/// Errors: see [`AppendFault`]. The tokens before one that does not fit have been appended. If out of memory,
+/// some may have been.
 pub fn append_tokens(
     out: &mut Vec<u8>,
     layout: Layout,
@@ -57,10 +56,9 @@ pub fn append_tokens(
     Ok(clipped)
 }
 
-/// Counts the tokens that do not fit a layout, where the nearest that does may be written.
+/// Counts the tokens that do not fit a layout, if the nearest may be written.
 ///
-/// Errors: the nearest may not be written. The error is the place of the first token that does not fit, counted
-/// from 0.
+/// Errors: the nearest may not be written. Returns the place of the first that does not fit, counted from 0.
 pub fn count_misfits(layout: Layout, tokens: &[Token]) -> Result<usize, usize>
     ensures clipped { IfOk result (λ n. n ≡ misfits layout tokens.now) }
     ensures unclipped { clips layout ≡ false → IfOk result (λ n. n ≡ 0) }
@@ -81,14 +79,13 @@ pub fn count_misfits(layout: Layout, tokens: &[Token]) -> Result<usize, usize>
     Ok(misfits)
 }
 
-/// The place of the first token that does not fit.
 fn first_misfit(layout: &Layout, tokens: &[Token]) -> Option<usize>
     ensures { result ≡ position (λ token. not (fits layout.now token)) tokens.now }
 {
     tokens.iter().position(|token| !is_fit(layout, *token))
 }
 
-/// Whether the record of a token says it.
+/// Whether a token's record can be read back as the token.
 fn is_fit(layout: &Layout, token: Token) -> bool
     ensures { result ≡ fits layout.now token }
 {
@@ -98,7 +95,6 @@ fn is_fit(layout: &Layout, token: Token) -> bool
     }
 }
 
-/// Whether a token that does not fit may be written as the nearest that does.
 fn may_clip(layout: &Layout) -> bool
     ensures { result ≡ clips layout.now }
 {
@@ -108,7 +104,6 @@ fn may_clip(layout: &Layout) -> bool
     }
 }
 
-/// Appends a token as a record.
 fn append_record(out: &mut Vec<u8>, layout: &Layout, token: Token) -> Result<(), AllocError>
     ensures { OnOk result (out.new.items ≡ out.old.items ++ record_text layout.now token) }
 {
@@ -120,7 +115,6 @@ fn append_record(out: &mut Vec<u8>, layout: &Layout, token: Token) -> Result<(),
     out.extend_from_slice(b"\n")
 }
 
-/// Appends a token in the field of a column.
 fn append_field(out: &mut Vec<u8>, column: &Column, token: Token) -> Result<(), AllocError>
     ensures { OnOk result (out.new.items ≡ out.old.items ++ field_text column.now token) }
 {
@@ -128,7 +122,6 @@ fn append_field(out: &mut Vec<u8>, column: &Column, token: Token) -> Result<(), 
     append_token(out, column.decimals, token)
 }
 
-/// Appends a token in its frame.
 fn append_frame_of(out: &mut Vec<u8>, frame: &Frame, token: Token) -> Result<(), AllocError>
     ensures { OnOk result (out.new.items ≡ out.old.items ++ frame_text frame.now token) }
 {
@@ -137,7 +130,6 @@ fn append_frame_of(out: &mut Vec<u8>, frame: &Frame, token: Token) -> Result<(),
     append_copies(out, 0, frame.after as usize)
 }
 
-/// Appends so many copies of a byte.
 fn append_copies(out: &mut Vec<u8>, byte: u8, count: usize) -> Result<(), AllocError>
     ensures { OnOk result (out.new.items ≡ out.old.items ++ replicate count byte) }
 {

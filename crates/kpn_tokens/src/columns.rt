@@ -1,4 +1,4 @@
-//! Files of several channels, as a whole.
+//! Whole files of several channels.
 ghost use Rattle.std.specs.Prelude.{◌≡◌, ◌++◌, OnOk, length, map};
 ghost use Rattle.kpn_tokens.specs.Tables.{cell_at, column_of, longest, table_text};
 
@@ -7,7 +7,7 @@ use crate::tables::{Table, append_row};
 use kpn_model::Token;
 use std::alloc::{AllocError, Global};
 
-/// A column of a file: the tokens of a channel, and how a word of them is written.
+/// A column of a file: the tokens of a channel, and how it writes a word.
 #[derive(Clone, Copy, Debug)]
 pub struct TokenColumn<'a> {
     pub decimals: Decimals,
@@ -15,7 +15,6 @@ pub struct TokenColumn<'a> {
 }
 
 impl TokenColumn<'_> {
-    /// How many tokens it has.
     fn length(&self) -> usize
         ensures { result ≡ length self.now.tokens.now }
     {
@@ -23,10 +22,10 @@ impl TokenColumn<'_> {
     }
 }
 
-/// Appends columns side by side: as many rows as the longest has tokens, with no token where another one has none any
-/// more (see [`append_row`]).
+/// Appends columns side by side, as many rows as the longest has tokens, and no token where a column has none
+/// (see [`append_row`]).
 ///
-/// Errors: memory was refused. Some rows may have been appended.
+/// Errors: out of memory. Some rows may have been appended.
 pub fn append_table(
     alloc: Global,
     out: &mut Vec<u8>,
@@ -43,7 +42,7 @@ pub fn append_table(
     Ok(())
 }
 
-/// How many tokens the longest of these columns has; 0 if there is none.
+/// Returns the number of tokens of the longest column; 0 if there is none.
 pub fn longest(columns: &[TokenColumn<'_>]) -> usize
     ensures { result ≡ longest (map column_of columns.now) }
 {
@@ -57,7 +56,6 @@ pub fn longest(columns: &[TokenColumn<'_>]) -> usize
     count
 }
 
-/// Makes a row the one at a place: the token there of each column.
 fn fill_row(
     row: &mut Vec<Cell>,
     columns: &[TokenColumn<'_>],
@@ -72,7 +70,6 @@ fn fill_row(
     Ok(())
 }
 
-/// The cell of a column at a place, with no token behind its last one.
 fn cell_at(column: TokenColumn<'_>, place: usize) -> Cell
     ensures { result ≡ cell_at place (column_of column.entry) }
 {

@@ -6,8 +6,8 @@ ghost use Rattle.kpn_tokens.specs.Rows.{is_line_feed};
 
 use crate::layouts::{Cut, Layout};
 
-/// Returns where the first record of some bytes ends, if it is there to its end. The last one need not be,
-/// if no more bytes come: a line needs no line feed then, and a frame that ends early is a fault.
+/// Returns where the first record ends, if it is complete. With `is_last` it need not be: a line needs no
+/// line feed, and reading finds the fault of a frame that ends early.
 pub fn record_in(layout: Layout, bytes: &[u8], is_last: bool) -> Option<Cut>
     ensures cut { IfSome result (IsCut layout bytes.now is_last) }
     ensures none { IfNone result ((first layout bytes.now ≡ bytes.now) × (is_last ≡ true → bytes.now ≡ [])) }
@@ -27,14 +27,13 @@ pub fn record_in(layout: Layout, bytes: &[u8], is_last: bool) -> Option<Cut>
     })
 }
 
-/// Where the first line feed is.
 fn line_feed_in(bytes: &[u8]) -> Option<usize>
     ensures { result ≡ position is_line_feed bytes.now }
 {
     bytes.iter().position(|b| *b == b'\n')
 }
 
-/// Where the first line ends, if it has a line feed.
+/// Returns where the first line ends, if it has a line feed.
 pub(crate) fn line_in(bytes: &[u8]) -> Option<Cut>
     ensures { MatchOption result (position_or_len is_line_feed bytes.now ≡ length bytes.now) (λ cut. (cut ≡ record { length = position_or_len is_line_feed bytes.now; used = position_or_len is_line_feed bytes.now + 1 }) × (position_or_len is_line_feed bytes.now < length bytes.now)) }
 {
@@ -47,7 +46,7 @@ pub(crate) fn line_in(bytes: &[u8]) -> Option<Cut>
     }
 }
 
-/// Where the first frame ends, if it is there to its end.
+/// Returns where the first frame ends, if it is complete.
 fn frame_in(size: usize, bytes: &[u8]) -> Option<Cut>
     ensures { MatchOption result (length bytes.now < size) (λ cut. (cut ≡ record { length = size; used = size }) × (size ≤ length bytes.now)) }
 {

@@ -1,4 +1,4 @@
-//! What stands before the records of a file: the head of a WAV file, or a row of names.
+//! The head of a file: that of a WAV file, or a row of names.
 ghost use Rattle.std.specs.Prelude.{◌≡◌, ◌<◌, ◌≤◌, ◌+◌, ◌*◌, ◌^◌, ◌++◌, ◌⊎◌, ℕ, true, false, None, Some, IfNone, IfSome, MatchOption, MatchResult, OnOk, length};
 ghost use Rattle.std.specs.List.{flat_map};
 ghost use Rattle.kpn_tokens.specs.Heads.{Finds, IsFrameOf, IsWavResult, after_chunk, body_size, chunk_size, has_letters, if_filled, is_pcm, is_wav, number_at, number_bytes, size_told, wav_sample, wav_text, width_of, width_told};
@@ -8,10 +8,10 @@ use crate::layouts::{Coding, Endian, Frame, Sample, Width};
 use byteorder::{ByteOrder, LittleEndian};
 use std::alloc::AllocError;
 
-/// How many bytes may stand before the samples of a WAV file.
+/// The most bytes before the samples of a WAV file.
 pub const LONGEST_HEAD: usize = 65536;
 
-/// The letters of a WAV file's head, as numbers of four bytes, the first letter the lowest.
+/// The letters of a WAV file's head, as numbers of four bytes, little-endian.
 const RIFF: u32 = 0x46464952;
 
 const WAVE: u32 = 0x45564157;
@@ -20,16 +20,16 @@ const FORMAT: u32 = 0x20746D66;
 
 const DATA: u32 = 0x61746164;
 
-/// A number of a WAV file's head: of two bytes, or of four.
+/// A number in a WAV file's head, of two bytes or four.
 #[derive(Clone, Copy, Debug, PartialEq, Eq)]
 enum HeadNumber {
     Short(u16),
     Long(u32),
 }
 
-/// What a WAV file tells before its samples: how many channels it has, how many samples of each a second, and
-/// how each is written; how many bytes stand before the samples; and how many bytes the samples have, if that
-/// is told. If it is not, they go on to the end of the file.
+/// What a WAV file says before its samples: how many channels it has, samples per second of each, how a
+/// sample is written, where the samples start, and how many bytes they have; without that number they extend
+/// to the end of the file.
 #[derive(Clone, Copy, Debug, PartialEq, Eq)]
 pub struct WavHead {
     pub channels: u16,
@@ -39,14 +39,14 @@ pub struct WavHead {
     pub size: Option<u32>,
 }
 
-/// Why a file is not read as a WAV file.
+/// Why a file is no WAV file that can be read.
 #[derive(Clone, Copy, Debug, PartialEq, Eq)]
 pub enum WavFault {
-    /// It does not begin as a WAV file does.
+    /// It does not begin like a WAV file.
     NotWav,
     /// Its samples are not PCM of 8, 16, 24 or 32 bits.
     NotPcm,
-    /// Nothing before its samples tells what they are.
+    /// Nothing before its samples says what they are.
     NoFormat,
     /// It ends before its samples begin.
     CutShort,
@@ -54,9 +54,8 @@ pub enum WavFault {
     TooLong,
 }
 
-/// Returns the head of a WAV file, if these first bytes of the file reach to the start of its samples. If no
-/// more bytes come, they have to. In whatever pieces a file comes, its samples begin within its first
-/// [`LONGEST_HEAD`] bytes.
+/// Returns the head of a WAV file from its first bytes; `None` if its samples are not reached and more bytes
+/// may come.
 ///
 /// Errors: see [`WavFault`].
 pub fn wav_head(bytes: &[u8], is_last: bool) -> Result<Option<WavHead>, WavFault>
@@ -83,7 +82,6 @@ pub fn wav_head(bytes: &[u8], is_last: bool) -> Result<Option<WavHead>, WavFault
     }
 }
 
-/// No head yet, as long as more bytes come and there are not too many.
 fn wanting(length: usize, is_last: bool) -> Result<Option<WavHead>, WavFault>
     ensures { MatchResult result (λ head. (head ≡ None) × (is_last ≡ false) × (length ≤ 65536)) (λ fault. ((fault ≡ WavFault.CutShort) × (is_last ≡ true) × (length ≤ 65536)) ⊎ ((fault ≡ WavFault.TooLong) × (65536 < length))) }
 {
@@ -96,7 +94,6 @@ fn wanting(length: usize, is_last: bool) -> Result<Option<WavHead>, WavFault>
     }
 }
 
-/// Whether bytes begin as a WAV file does.
 fn is_wav(bytes: &[u8]) -> bool
     requires { 12 ≤ length bytes.now }
     ensures { result ≡ is_wav bytes.now }
@@ -104,7 +101,6 @@ fn is_wav(bytes: &[u8]) -> bool
     has_letters(bytes, 0, b"RIFF") && has_letters(bytes, 8, b"WAVE")
 }
 
-/// Where the first chunk with these letters stands, if it is there.
 fn chunk_in(bytes: &[u8], letters: &[u8]) -> Option<usize>
     ensures { MatchOption result ((found : ℕ) → Finds bytes.now letters.now 12 found → ⊥) (λ found. Finds bytes.now letters.now 12 found × (found + 8 ≤ length bytes.now)) }
 {
@@ -118,7 +114,6 @@ fn chunk_in(bytes: &[u8], letters: &[u8]) -> Option<usize>
     None
 }
 
-/// Whether these four letters stand at a place.
 fn has_letters(bytes: &[u8], place: usize, letters: &[u8]) -> bool
     requires { place + 4 ≤ length bytes.now }
     ensures { result ≡ has_letters letters.now place bytes.now }
@@ -126,7 +121,6 @@ fn has_letters(bytes: &[u8], place: usize, letters: &[u8]) -> bool
     &bytes[place..place + 4] == letters
 }
 
-/// How many bytes the chunk at a place has.
 fn chunk_size(bytes: &[u8], place: usize) -> usize
     requires { place + 8 ≤ length bytes.now }
     ensures size { result ≡ chunk_size place bytes.now }
@@ -135,7 +129,6 @@ fn chunk_size(bytes: &[u8], place: usize) -> usize
     LittleEndian::read_u32(&bytes[place + 4..]) as usize
 }
 
-/// Where the chunk after that at a place stands.
 fn after_chunk(bytes: &[u8], place: usize) -> usize
     requires { place + 8 ≤ length bytes.now }
     ensures { result ≡ after_chunk place bytes.now }
@@ -144,7 +137,6 @@ fn after_chunk(bytes: &[u8], place: usize) -> usize
     place + 8 + size + size % 2
 }
 
-/// The number of two bytes at a place.
 fn short_at(bytes: &[u8], place: usize) -> u16
     requires { place + 2 ≤ length bytes.now }
     ensures { result ≡ number_at 2 place bytes.now }
@@ -152,7 +144,6 @@ fn short_at(bytes: &[u8], place: usize) -> u16
     LittleEndian::read_u16(&bytes[place..])
 }
 
-/// The width of samples that the format at a place tells of, if they are PCM.
 fn width_told(bytes: &[u8], format: usize) -> Option<Width>
     requires { format + 8 + chunk_size format bytes.now ≤ length bytes.now }
     ensures { result ≡ width_told format bytes.now }
@@ -166,7 +157,6 @@ fn width_told(bytes: &[u8], format: usize) -> Option<Width>
     }
 }
 
-/// Whether a format is PCM, or the extensible form of it.
 fn is_pcm(bytes: &[u8], format: usize) -> bool
     requires whole { format + 8 + chunk_size format bytes.now ≤ length bytes.now }
     requires long { 16 ≤ chunk_size format bytes.now }
@@ -179,7 +169,7 @@ fn is_pcm(bytes: &[u8], format: usize) -> bool
     tag == 0xFFFE && chunk_size(bytes, format) >= 26 && short_at(bytes, format + 32) == 1
 }
 
-/// The width, if a frame has just one sample of it for each channel.
+/// The width, if a frame has exactly one sample of it for each channel.
 fn if_filled(bytes: &[u8], format: usize, width: Width) -> Option<Width>
     requires { format + 24 ≤ length bytes.now }
     ensures { result ≡ if_filled format bytes.now (Some width) }
@@ -192,7 +182,7 @@ fn if_filled(bytes: &[u8], format: usize, width: Width) -> Option<Width>
     }
 }
 
-/// The width of so many bits, if WAV files are read that have it.
+/// The width of a sample of this many bits, if such files can be read.
 fn width_of(bits: u16) -> Option<Width>
     ensures { result ≡ width_of bits }
 {
@@ -205,7 +195,6 @@ fn width_of(bits: u16) -> Option<Width>
     }
 }
 
-/// The head whose format and samples stand at these places.
 fn head_of(bytes: &[u8], format: usize, samples: usize, width: Width) -> WavHead
     requires format { format + 24 ≤ length bytes.now }
     requires samples { samples + 8 ≤ length bytes.now }
@@ -225,7 +214,6 @@ fn head_of(bytes: &[u8], format: usize, samples: usize, width: Width) -> WavHead
     }
 }
 
-/// How many bytes the samples have, if it is told.
 fn size_told(size: u32) -> Option<u32>
     ensures { result ≡ size_told size }
 {
@@ -236,7 +224,7 @@ fn size_told(size: u32) -> Option<u32>
     }
 }
 
-/// Returns how samples of this width are written in WAV files. One that does not fit is refused.
+/// Returns how WAV files write samples of this width. One that does not fit is a fault.
 pub fn wav_sample(width: Width) -> Sample
     ensures { result ≡ wav_sample width }
 {
@@ -252,7 +240,7 @@ pub fn wav_sample(width: Width) -> Sample
 }
 
 impl WavHead {
-    /// Returns the frames in which a channel of the file has its samples, if it has so many channels.
+    /// Returns the frames of a channel; `None` if there is no such channel, or if a frame is too long.
     pub fn frame(&self, channel: u16) -> Option<Frame>
         ensures some { IfSome result (IsFrameOf self.now channel) }
         ensures none { IfNone result (channel < self.now.channels → 2 ^ 16 ≤ self.now.channels * bytes_in self.now.sample.width) }
@@ -274,10 +262,10 @@ impl WavHead {
     }
 }
 
-/// Appends the head of a WAV file with so many channels, samples of this width, and so many frames a second.
-/// After it come so many frames, or as many as there are, and one byte more if their bytes are odd.
+/// Appends the head of a WAV file with `channels` channels, samples of this width and `rate` frames per
+/// second. `frames` frames follow it, or any number if `None`, and one more byte if their bytes are odd.
 ///
-/// Errors: memory was refused. Some bytes may have been appended.
+/// Errors: out of memory. Some bytes may have been appended.
 pub fn append_wav_head(
     out: &mut Vec<u8>,
     channels: u16,
@@ -309,7 +297,7 @@ pub fn append_wav_head(
     )
 }
 
-/// How many bytes so many frames have; the greatest number if that is not known, or is more.
+/// How many bytes the frames have; at most 2^32 - 1, also for an unknown number.
 fn body_size(frames: Option<u32>, block: u64) -> u64
     requires { block < 2 ^ 20 }
     ensures size { result ≡ body_size frames block }
@@ -321,7 +309,6 @@ fn body_size(frames: Option<u32>, block: u64) -> u64
     }
 }
 
-/// Appends numbers, one after the other.
 fn append_numbers(out: &mut Vec<u8>, numbers: &[HeadNumber]) -> Result<(), AllocError>
     ensures { OnOk result (out.new.items ≡ out.old.items ++ flat_map number_bytes numbers.now) }
 {
@@ -331,7 +318,7 @@ fn append_numbers(out: &mut Vec<u8>, numbers: &[HeadNumber]) -> Result<(), Alloc
     Ok(())
 }
 
-/// Appends a number, the lowest byte first.
+/// Appends a number, little-endian.
 fn append_number(out: &mut Vec<u8>, number: HeadNumber) -> Result<(), AllocError>
     ensures { OnOk result (out.new.items ≡ out.old.items ++ number_bytes number) }
 {

@@ -1,16 +1,16 @@
-//! Laws of layouts. A function here does nothing: what it ensures is a theorem.
+//! Laws of layouts. The functions do nothing: their clauses are theorems.
 ghost use Rattle.kpn_tokens.specs.Records.{ReadsBack};
 ghost use Rattle.kpn_tokens.specs.Tables.{ReadsColumnsBack};
 
 use crate::layouts::Layout;
 use crate::tables::Table;
 
-/// What is written of tokens that fit is read back as these tokens.
+/// Written tokens that fit are read back unchanged.
 pub fn reads_back(layout: Layout)
     ensures { ReadsBack layout }
 {}
 
-/// What is written of columns of tokens that fit, all of one length, is read back in each of them.
+/// Written columns of tokens that fit, all of one length, are read back unchanged.
 pub fn reads_columns_back(table: Table)
     ensures { ReadsColumnsBack table }
 {}

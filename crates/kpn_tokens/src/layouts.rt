@@ -1,23 +1,23 @@
-//! How files have tokens.
+//! How files write tokens.
 ghost use Rattle.std.specs.Prelude.{◌≡◌};
 ghost use Rattle.kpn_tokens.specs.Rows.{separator_byte};
 ghost use Rattle.kpn_tokens.specs.Samples.{bytes_in, frame_size};
 
 use kpn_model::Token;
 
-/// How the body of a file is cut into records, and how each says a token.
+/// How to cut the body of a file into records, and how they write tokens.
 #[derive(Clone, Copy, Debug, PartialEq, Eq)]
 pub enum Layout {
-    /// A token a line, in its first column: up to `#`, which begins a comment, and to the first comma.
+    /// A token per line, in its first column: before `#`, which begins a comment, and the first comma.
     Lines(Decimals),
-    /// A token a line, in a field of it.
+    /// A token per line, in one of its fields.
     Fields(Column),
-    /// A token a frame, all of one size.
+    /// A token per frame; all have one size.
     Frames(Frame),
 }
 
-/// How a word is written in decimal digits: in units of 10^-`digits`. With two digits, `21.37` is the word
-/// 2137. A word from 2^63 on stands for a number below zero, and is written so unless words are unsigned.
+/// How a word is written in decimal digits, in units of 10^-`digits`: with two digits, `21.37` is the word
+/// 2137. A word from 2^63 on is written as a number below zero unless words are unsigned.
 #[derive(Clone, Copy, Debug, PartialEq, Eq)]
 pub struct Decimals {
     pub digits: u8,
@@ -32,14 +32,14 @@ pub struct Column {
     pub decimals: Decimals,
 }
 
-/// A token of a row, if there is one, and how a word of its column is written.
+/// The token of a cell, if any, and how its column writes a word.
 #[derive(Clone, Copy, Debug, PartialEq, Eq)]
 pub struct Cell {
     pub decimals: Decimals,
     pub token: Option<Token>,
 }
 
-/// What stands between the fields of a line.
+/// What separates the fields of a line.
 #[derive(Clone, Copy, Debug, PartialEq, Eq)]
 pub enum Separator {
     Comma,
@@ -55,7 +55,7 @@ pub struct Frame {
     pub after: u16,
 }
 
-/// How a word is written in bytes. One that does not fit is refused, or the nearest is written where the
+/// How a word is written in bytes. If it does not fit, that is a fault, or the nearest is written if the
 /// sample clips.
 #[derive(Clone, Copy, Debug, PartialEq, Eq)]
 pub struct Sample {
@@ -65,7 +65,7 @@ pub struct Sample {
     pub clips: bool,
 }
 
-/// How many bytes a sample has.
+/// The number of bytes of a sample.
 #[derive(Clone, Copy, Debug, PartialEq, Eq)]
 pub enum Width {
     One,
@@ -75,8 +75,8 @@ pub enum Width {
     Eight,
 }
 
-/// Which words the numbers of so many bytes stand for: themselves; two's complement; or from the least one
-/// below zero on, so that half of all numbers stand for 0, as in WAV files of 8 bits.
+/// Which words numbers of this width represent: themselves; two's complement; or offset by half of all
+/// numbers, as in WAV files of 8 bits.
 #[derive(Clone, Copy, Debug, PartialEq, Eq)]
 pub enum Coding {
     Unsigned,
@@ -84,7 +84,7 @@ pub enum Coding {
     Offset,
 }
 
-/// Which byte of a sample is the first: the lowest or the highest.
+/// Which byte of a sample is first: the lowest or the highest.
 #[derive(Clone, Copy, Debug, PartialEq, Eq)]
 pub enum Endian {
     Little,
@@ -94,23 +94,23 @@ pub enum Endian {
 /// What is wrong with a record.
 #[derive(Clone, Copy, Debug, PartialEq, Eq)]
 pub enum RecordFault {
-    /// It says no number where a word is due.
+    /// It has no number for a word.
     NotAWord,
-    /// It says neither `true` nor `false`, or a sample is neither 0 nor 1, where a flag is due.
+    /// It has neither `true` nor `false`, or a sample neither 0 nor 1, for a flag.
     NotAFlag,
-    /// There is `_` among the digits of its number.
+    /// The digits of its number include `_`.
     Underscore,
-    /// Its number has more digits after the point than the layout has.
+    /// Its number has more digits after the point than the layout.
     TooPrecise,
     /// Its number is above 2^64 - 1, or below -2^63.
     OutOfRange,
     /// It is not UTF-8.
     NoText,
-    /// The line has no field at the place of the column.
+    /// The line has no field in this column.
     NoField,
-    /// The field of the column is empty.
+    /// The field is empty.
     EmptyField,
-    /// A quoted field goes on over the end of the line.
+    /// A quoted field continues past the end of the line.
     OpenQuote,
     /// A carriage return within the line ends a row.
     TwoRows,
@@ -118,7 +118,7 @@ pub enum RecordFault {
     CutShort,
 }
 
-/// Where the first record of some bytes ends, without its line feed, and how many bytes it takes with it.
+/// Where the first record ends, without its line feed, and how many bytes it uses with it.
 #[derive(Clone, Copy, Debug, PartialEq, Eq)]
 pub struct Cut {
     pub length: usize,
@@ -126,12 +126,12 @@ pub struct Cut {
 }
 
 impl Layout {
-    /// Lines of whole numbers, with a sign where one is due.
+    /// Lines of whole numbers, with a sign.
     pub const PLAIN: Layout = Layout::Lines(Decimals::WHOLE);
 }
 
 impl Decimals {
-    /// Whole numbers, with a sign where one is due.
+    /// Whole numbers, with a sign.
     pub const WHOLE: Decimals = Decimals {
         digits: 0,
         is_unsigned: false,
@@ -139,7 +139,7 @@ impl Decimals {
 }
 
 impl Separator {
-    /// Returns the byte that stands between the fields.
+    /// Returns the byte between the fields.
     pub fn byte(self) -> u8
         ensures { result ≡ separator_byte self }
     {
@@ -152,7 +152,7 @@ impl Separator {
 }
 
 impl Width {
-    /// Returns how many bytes there are.
+    /// Returns the number of bytes.
     pub fn bytes(self) -> usize
         ensures { result ≡ bytes_in self }
     {
@@ -167,7 +167,7 @@ impl Width {
 }
 
 impl Frame {
-    /// A sample, and nothing before or after it.
+    /// Returns a frame of only a sample.
     pub fn of(sample: Sample) -> Frame
         ensures { result ≡ record { before = 0; sample = sample; after = 0 } }
     {

@@ -1,7 +1,7 @@
-//! Tokens as files have them: lines of text, a column of a CSV file, and samples.
+//! Tokens in files: lines of text, a column of a CSV file, and samples.
 //!
-//! A [`Layout`] says how a file is cut into records, each of which says one token or nothing, and how a token
-//! is written in one. What stands before the records is a head: of a WAV file, or a row of names.
+//! A [`Layout`] says how to cut a file into records, each with one token or none, and how they write tokens.
+//! A head may come before the records: of a WAV file, or a row of names.
 #![tactic(auto)]
 
 mod appending;

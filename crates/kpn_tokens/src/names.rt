@@ -1,4 +1,4 @@
-//! Rows of names, which stand before the rows of a CSV file.
+//! Rows of names, before the rows of a CSV file.
 ghost use Rattle.std.specs.Prelude.{◌≡◌, ◌++◌, false, IfOk, OnOk, map, position};
 ghost use Rattle.std.specs.Option.{option_map_or};
 ghost use Rattle.csv.specs.Records.{field_at, fields_of};
@@ -12,10 +12,10 @@ use csv::{ByteRecord, WriterBuilder};
 use std::alloc::{AllocError, Global};
 use std::str;
 
-/// Returns the place of the column of this name in a row of names, which is given without its line feed: the
-/// first one, if there are more; or what is wrong with the row.
+/// Returns the place of the first column of this name in a row of names, given without its line feed; or what
+/// is wrong with the row.
 ///
-/// Errors: memory was refused.
+/// Errors: out of memory.
 pub fn column_named(
     alloc: Global,
     separator: Separator,
@@ -34,7 +34,6 @@ pub fn column_named(
     }
 }
 
-/// The place of the first field of this name.
 fn place_named(names: &ByteRecord, name: &str) -> Option<usize>
     ensures { result ≡ position (is_name name.now) (fields_of names.now) }
 {
@@ -46,7 +45,6 @@ fn place_named(names: &ByteRecord, name: &str) -> Option<usize>
     None
 }
 
-/// Whether the field at a place has this name.
 fn is_name_at(names: &ByteRecord, place: usize, name: &str) -> bool
     ensures { result ≡ option_map_or (is_name name.now) (field_at (fields_of names.now) place) false }
 {
@@ -56,7 +54,7 @@ fn is_name_at(names: &ByteRecord, place: usize, name: &str) -> bool
     }
 }
 
-/// Whether a field has this name, but for blanks around it.
+/// Whether a field has this name, apart from surrounding blanks.
 fn is_name(name: &str, field: &[u8]) -> bool
     ensures { result ≡ is_name name.now field.now }
 {
@@ -66,9 +64,9 @@ fn is_name(name: &str, field: &[u8]) -> bool
     }
 }
 
-/// Appends a row of names, in quotes where need be, with a line feed.
+/// Appends a row of names, quoted where necessary, with a line feed.
 ///
-/// Errors: memory was refused. Nothing is appended then.
+/// Errors: out of memory. Appends nothing then.
 pub fn append_names(
     alloc: Global,
     out: &mut Vec<u8>,

@@ -11,7 +11,6 @@ use itoa::{Buffer, write_digits};
 use kpn_model::{Sort, Token};
 use std::alloc::AllocError;
 
-/// The token of this sort that a text says.
 pub(crate) fn token_in(
     decimals: Decimals,
     sort: Sort,
@@ -32,7 +31,6 @@ pub(crate) fn token_in(
     }
 }
 
-/// The flag that a text says.
 fn flag_in(text: &str) -> Result<bool, RecordFault>
     ensures { result ≡ flag_said text.now }
 {
@@ -43,7 +41,7 @@ fn flag_in(text: &str) -> Result<bool, RecordFault>
     }
 }
 
-/// The word that a text says, in units of 10^-places.
+/// Reads a word in units of 10^-places.
 fn word_in(places: u8, text: &[u8]) -> Result<u64, RecordFault>
     ensures { result ≡ word_said places text.now }
 {
@@ -57,7 +55,7 @@ fn word_in(places: u8, text: &[u8]) -> Result<u64, RecordFault>
     }
 }
 
-/// The word for a number below zero, of which this is the magnitude.
+/// Returns the word for the number below zero with this magnitude.
 fn word_below_zero(number: u64) -> Result<u64, RecordFault>
     ensures { result ≡ word_of (Ok number) true }
 {
@@ -68,7 +66,7 @@ fn word_below_zero(number: u64) -> Result<u64, RecordFault>
     }
 }
 
-/// The number that a text without a sign says, in units of 10^-places.
+/// Reads a number without a sign in units of 10^-places.
 fn number_in(places: u8, text: &[u8]) -> Result<u64, RecordFault>
     ensures { result ≡ word_of (number_said places text.now) false }
 {
@@ -79,14 +77,13 @@ fn number_in(places: u8, text: &[u8]) -> Result<u64, RecordFault>
     number_of(places, 10, whole, part)
 }
 
-/// Where the first point is.
 fn point_in(text: &[u8]) -> Option<usize>
     ensures { result ≡ position is_point text.now }
 {
     text.iter().position(|b| *b == b'.')
 }
 
-/// What stands before the first point, and after it.
+/// Returns the text before the first point, and after it.
 fn at_point(text: &[u8]) -> (&[u8], &[u8])
     ensures before { result.0.now ≡ before_first is_point text.now }
     ensures after { result.1.now ≡ after_first is_point text.now }
@@ -97,7 +94,7 @@ fn at_point(text: &[u8]) -> (&[u8], &[u8])
     }
 }
 
-/// The number that digits say, of which some stand after a point, in units of 10^-places.
+/// Reads digits before and after a point in units of 10^-places.
 fn number_of(places: u8, base: u8, whole: &[u8], part: &[u8]) -> Result<u64, RecordFault>
     requires { 1 < base }
     ensures { result ≡ word_of (digits_said places base (whole.now ++ part.now) (length part.now)) false }
@@ -120,21 +117,20 @@ fn number_of(places: u8, base: u8, whole: &[u8], part: &[u8]) -> Result<u64, Rec
     }
 }
 
-/// Whether there is a digit.
 fn has_digit(base: u8, text: &[u8]) -> bool
     ensures { result ≡ list_any (is_digit base) text.now }
 {
     text.iter().any(|b| value_of_digit(*b) < base)
 }
 
-/// Whether there are only digits, and maybe `_` among them.
+/// Whether there are only digits and `_`.
 fn has_only_digits(base: u8, text: &[u8]) -> bool
     ensures { result ≡ list_all (λ b. is_digit base b || is_underscore b) text.now }
 {
     text.iter().all(|b| value_of_digit(*b) < base || *b == b'_')
 }
 
-/// The number that a digit says, in any base; 36 if it is none.
+/// Returns the value of a digit in any base; 36 if it is none.
 fn value_of_digit(byte: u8) -> u8
     ensures { result ≡ digit_value byte }
 {
@@ -146,7 +142,6 @@ fn value_of_digit(byte: u8) -> u8
     }
 }
 
-/// The number that digits say, and then so many zeros, if it has 64 bits.
 fn value_of(zeros: u8, base: u8, whole: &[u8], part: &[u8]) -> Option<u64>
     requires { 1 < base }
     ensures { SomeIff result (digits_value base (whole.now ++ part.now) * 10 ^ zeros < 2 ^ 64) (digits_value base (whole.now ++ part.now) * 10 ^ zeros) }
@@ -160,7 +155,7 @@ fn value_of(zeros: u8, base: u8, whole: &[u8], part: &[u8]) -> Option<u64>
     scaled(value, zeros)
 }
 
-/// The number that digits say after those of another number, if it has 64 bits.
+/// Continues a number with more digits; `None` past 64 bits.
 fn value_after(start: u64, base: u8, digits: &[u8]) -> Option<u64>
     requires { 1 < base }
     ensures { SomeIff result (digits_value_after base start digits.now < 2 ^ 64) (digits_value_after base start digits.now) }
@@ -175,7 +170,6 @@ fn value_after(start: u64, base: u8, digits: &[u8]) -> Option<u64>
     Some(value)
 }
 
-/// A number with a digit after its others, if it has 64 bits.
 fn with_digit(value: u64, base: u8, digit: u8) -> Option<u64>
     ensures { SomeIff result (value * base + digit_value digit < 2 ^ 64) (value * base + digit_value digit) }
 {
@@ -184,7 +178,7 @@ fn with_digit(value: u64, base: u8, digit: u8) -> Option<u64>
         .checked_add(value_of_digit(digit) as u64)
 }
 
-/// So many times ten, if it has 64 bits.
+/// Returns `value` times 10^zeros; `None` past 64 bits.
 fn scaled(value: u64, zeros: u8) -> Option<u64>
     ensures { SomeIff result (value * 10 ^ zeros < 2 ^ 64) (value * 10 ^ zeros) }
 {
@@ -194,9 +188,9 @@ fn scaled(value: u64, zeros: u8) -> Option<u64>
     value.checked_mul(10u64.checked_pow(zeros as u32)?)
 }
 
-/// Appends the text of a token, as [`token_of_record`](crate::token_of_record) reads it in a line.
+/// Appends the text of a token, such that [`token_of_record`](crate::token_of_record) can read it in a line.
 ///
-/// Errors: memory was refused. Some of the text may have been appended.
+/// Errors: out of memory. Some of the text may have been appended.
 pub fn append_token(out: &mut Vec<u8>, decimals: Decimals, token: Token) -> Result<(), AllocError>
     ensures { OnOk result (out.new.items ≡ out.old.items ++ token_text decimals token) }
 {
@@ -207,7 +201,6 @@ pub fn append_token(out: &mut Vec<u8>, decimals: Decimals, token: Token) -> Resu
     }
 }
 
-/// Appends the text of a token, with a line feed behind it.
 pub(crate) fn append_line(
     out: &mut Vec<u8>,
     decimals: Decimals,
@@ -224,10 +217,9 @@ pub(crate) fn append_line(
     }
 }
 
-/// How many bytes a line of a whole word has at most.
+/// Room for the line of a number.
 const LONGEST_LINE: usize = 24;
 
-/// Appends a line of a word, if words are whole.
 fn append_whole_line(out: &mut Vec<u8>, decimals: Decimals, word: u64) -> Result<(), AllocError>
     requires { decimals.digits ≡ 0 }
     ensures { OnOk result (out.new.items ≡ out.old.items ++ (word_text decimals word ++ codes "\n")) }
@@ -239,7 +231,6 @@ fn append_whole_line(out: &mut Vec<u8>, decimals: Decimals, word: u64) -> Result
     append_number_line(out, word)
 }
 
-/// Appends a line of a number.
 fn append_number_line(out: &mut Vec<u8>, number: u64) -> Result<(), AllocError>
     ensures { OnOk result (out.new.items ≡ out.old.items ++ (decimal number ++ codes "\n")) }
 {
@@ -248,7 +239,6 @@ fn append_number_line(out: &mut Vec<u8>, number: u64) -> Result<(), AllocError>
     out.extend_from_slice(&line[start..])
 }
 
-/// Appends the text of a word.
 fn append_word(out: &mut Vec<u8>, decimals: Decimals, word: u64) -> Result<(), AllocError>
     ensures { OnOk result (out.new.items ≡ out.old.items ++ word_text decimals word) }
 {
@@ -259,7 +249,6 @@ fn append_word(out: &mut Vec<u8>, decimals: Decimals, word: u64) -> Result<(), A
     append_units(out, decimals.digits, 0u64.wrapping_sub(word))
 }
 
-/// Appends the text of so many units of 10^-places.
 fn append_units(out: &mut Vec<u8>, places: u8, number: u64) -> Result<(), AllocError>
     ensures { OnOk result (out.new.items ≡ out.old.items ++ units_text places number) }
 {
@@ -271,7 +260,6 @@ fn append_units(out: &mut Vec<u8>, places: u8, number: u64) -> Result<(), AllocE
     append_last_digits(out, places, number)
 }
 
-/// How many whole ones there are in so many units of 10^-places.
 fn whole_of(number: u64, places: u8) -> u64
     ensures { result ≡ number / 10 ^ places }
 {
@@ -281,7 +269,6 @@ fn whole_of(number: u64, places: u8) -> u64
     }
 }
 
-/// Appends the decimal digits of a number.
 fn append_decimal(out: &mut Vec<u8>, number: u64) -> Result<(), AllocError>
     ensures { OnOk result (out.new.items ≡ out.old.items ++ decimal number) }
 {
@@ -289,7 +276,6 @@ fn append_decimal(out: &mut Vec<u8>, number: u64) -> Result<(), AllocError>
     out.extend_from_slice(digits.format(number).as_bytes())
 }
 
-/// Appends the last digits of a number, so many.
 fn append_last_digits(out: &mut Vec<u8>, count: u8, number: u64) -> Result<(), AllocError>
     ensures { OnOk result (out.new.items ≡ out.old.items ++ last_digits count number) }
 {
@@ -300,7 +286,6 @@ fn append_last_digits(out: &mut Vec<u8>, count: u8, number: u64) -> Result<(), A
     append_byte(out, b'0' + (number % 10) as u8)
 }
 
-/// Appends a byte.
 pub(crate) fn append_byte(out: &mut Vec<u8>, byte: u8) -> Result<(), AllocError>
     ensures { OnOk result (out.new.items ≡ out.old.items ++ byte ∷ []) }
 {

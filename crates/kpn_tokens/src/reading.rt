@@ -1,4 +1,4 @@
-//! What a file says, record by record.
+//! Reads a file record by record.
 ghost use Rattle.std.specs.Prelude.{◌≡◌, ◌≢◌, ◌<◌, ◌≤◌, ◌+◌, ℕ, List, Ok, Err, IfErr, IfOk, IfSome, length};
 ghost use Rattle.std.specs.List.{AllByRecursion};
 ghost use Rattle.kpn_model.specs.declared.token.Token.{Token as TokenV};
@@ -12,11 +12,11 @@ use crate::saying::token_of_record;
 use kpn_model::{Sort, Token};
 use std::alloc::Global;
 
-/// How many tokens a file may have.
+/// The most tokens of a file.
 pub const MOST_TOKENS: usize = 1000000;
 
-/// Why a file has no tokens: what is wrong with a record, of which the number counts from 1; it has more than
-/// 1,000,000 tokens; or memory was refused.
+/// Why a file has no tokens: the fault of a record, with its number, counted from 1; more than 1,000,000
+/// tokens; or out of memory.
 #[derive(Clone, Copy, Debug, PartialEq, Eq)]
 pub enum TokensFault {
     Record { number: usize, fault: RecordFault },
@@ -24,10 +24,9 @@ pub enum TokensFault {
     Memory,
 }
 
-/// Returns the tokens of a file, as [`token_of_record`] reads each of its records. A last line need not end
-/// with a line feed.
+/// Returns the tokens of a file, each record read like [`token_of_record`]. The last line needs no line feed.
 ///
-/// Errors: see [`TokensFault`]. A fault of a record is that of the first record that has one.
+/// Errors: see [`TokensFault`]. Of faulty records it is the first.
 pub fn read_tokens(
     alloc: Global,
     layout: Layout,
@@ -63,7 +62,6 @@ pub fn read_tokens(
     Ok(tokens)
 }
 
-/// The token of the record of this number.
 fn token_at(
     alloc: Global,
     layout: Layout,
@@ -83,7 +81,6 @@ fn token_at(
     }
 }
 
-/// The first record of a file, without its line feed, and what follows.
 fn first_record(layout: Layout, bytes: &[u8]) -> (&[u8], &[u8])
     requires { 0 < length bytes.now }
     ensures first { result.0.now ≡ first layout bytes.now }

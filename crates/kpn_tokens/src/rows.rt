@@ -1,4 +1,4 @@
-//! What a line of fields says.
+//! Reads tokens from lines of fields.
 ghost use Rattle.std.specs.Prelude.{◌≡◌, ◌++◌, ◌∷◌, [], ℕ, List, false, IfOk, Some};
 ghost use Rattle.std.specs.Option.{option_map_or};
 ghost use Rattle.csv.specs.Reading.{Ready, reader_config, reader_state, reader_trim, source_of, strip_bom};
@@ -15,7 +15,6 @@ use kpn_model::{Sort, Token};
 use std::alloc::{AllocError, Global};
 use std::str;
 
-/// The token in the field of a column.
 pub(crate) fn said_by_row(
     alloc: Global,
     column: Column,
@@ -32,7 +31,7 @@ pub(crate) fn said_by_row(
     }
 }
 
-/// The row of a line, if it is not blank.
+/// Returns the row of a line; `None` if it is blank.
 pub(crate) fn row_of(
     alloc: Global,
     separator: Separator,
@@ -45,7 +44,7 @@ pub(crate) fn row_of(
     only_row(alloc, &mut reader)
 }
 
-/// The only row that a reader has left, if it has one.
+/// Returns the only row that a reader has left, if any.
 fn only_row(
     alloc: Global,
     reader: &mut Reader<&[u8]>,
@@ -72,7 +71,7 @@ fn only_row(
     Ok(Ok(Some(row)))
 }
 
-/// Whether a field goes on over the end of the line.
+/// Whether a field continues past the end of the line.
 fn is_open(row: &ByteRecord) -> bool
     ensures { result ≡ is_open (fields_of row.now) }
 {
@@ -84,7 +83,6 @@ fn is_open(row: &ByteRecord) -> bool
     false
 }
 
-/// Whether the field at a place goes on over the end of the line.
 fn is_open_at(row: &ByteRecord, place: usize) -> bool
     ensures { result ≡ option_map_or is_open_field (field_at (fields_of row.now) place) false }
 {
@@ -94,7 +92,7 @@ fn is_open_at(row: &ByteRecord, place: usize) -> bool
     }
 }
 
-/// A line with its line feed.
+/// Returns a line with its line feed.
 fn ended(alloc: Global, line: &[u8]) -> Result<Vec<u8>, AllocError>
     ensures { IfOk result (λ text. text.items ≡ line.now ++ 10 ∷ []) }
 {
@@ -104,7 +102,7 @@ fn ended(alloc: Global, line: &[u8]) -> Result<Vec<u8>, AllocError>
     Ok(text)
 }
 
-/// A reader of rows that have no head.
+/// Returns a reader of rows without a head.
 fn reader_of(alloc: Global, separator: Separator, text: &[u8]) -> Reader<&[u8]>
     ensures config { reader_config result ≡ config_of separator }
     ensures trim { reader_trim result ≡ trim.None }
@@ -119,7 +117,6 @@ fn reader_of(alloc: Global, separator: Separator, text: &[u8]) -> Reader<&[u8]>
         .from_reader(alloc, text)
 }
 
-/// What a row says.
 fn said_by_fields(
     column: Column,
     sort: Sort,
@@ -134,7 +131,6 @@ fn said_by_fields(
     }
 }
 
-/// What a field says.
 fn said_by_field(decimals: Decimals, sort: Sort, field: &[u8]) -> Result<Option<Token>, RecordFault>
     ensures said { result ≡ field_said decimals sort (Some field.now) }
     ensures sorted { IsSaidOf sort result }

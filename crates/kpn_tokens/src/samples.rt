@@ -8,7 +8,7 @@ use byteorder::{BigEndian, ByteOrder, LittleEndian};
 use kpn_model::{Sort, Token};
 use std::alloc::AllocError;
 
-/// Returns the token of a frame, as [`token_of_record`](crate::token_of_record) reads it.
+/// Returns the token of a frame, like [`token_of_record`](crate::token_of_record).
 #[inline(always)]
 pub fn token_of_frame(frame: &Frame, sort: Sort, bytes: &[u8]) -> Result<Option<Token>, RecordFault>
     ensures said { result ≡ frame_said frame.now sort bytes.now }
@@ -21,7 +21,6 @@ pub fn token_of_frame(frame: &Frame, sort: Sort, bytes: &[u8]) -> Result<Option<
     token_of(sort, word)
 }
 
-/// The token for a word.
 fn token_of(sort: Sort, word: u64) -> Result<Option<Token>, RecordFault>
     ensures said { result ≡ token_for sort word }
     ensures sorted { IsSaidOf sort result }
@@ -34,7 +33,6 @@ fn token_of(sort: Sort, word: u64) -> Result<Option<Token>, RecordFault>
     }
 }
 
-/// The word of a sample.
 fn word_in(sample: &Sample, bytes: &[u8]) -> u64
     requires { bytes_in sample.now.width ≤ length bytes.now }
     ensures { result ≡ word_from sample.now.coding sample.now.width (number_in sample.now.endian (bytes_in sample.now.width) bytes.now) }
@@ -43,7 +41,6 @@ fn word_in(sample: &Sample, bytes: &[u8]) -> u64
     word_of(sample.coding, sample.width, number)
 }
 
-/// The number that the first bytes say.
 fn number_of(endian: Endian, width: Width, bytes: &[u8]) -> u64
     requires { bytes_in width ≤ length bytes.now }
     ensures is { result ≡ number_in endian (bytes_in width) bytes.now }
@@ -55,7 +52,6 @@ fn number_of(endian: Endian, width: Width, bytes: &[u8]) -> u64
     }
 }
 
-/// The number that the first bytes say in this order.
 fn number_by<O: ByteOrder>(width: Width, bytes: &[u8]) -> u64
     requires { bytes_in width ≤ length bytes.now }
     ensures { result ≡ O.number_of (bytes_in width) bytes.now }
@@ -69,7 +65,7 @@ fn number_by<O: ByteOrder>(width: Width, bytes: &[u8]) -> u64
     }
 }
 
-/// How many numbers there are of so many bytes, by half.
+/// Returns half the count of numbers of this width.
 fn half_of_numbers(width: Width) -> u64
     ensures { result ≡ half_of width }
 {
@@ -82,7 +78,6 @@ fn half_of_numbers(width: Width) -> u64
     }
 }
 
-/// The word for a number of so many bytes.
 fn word_of(coding: Coding, width: Width, number: u64) -> u64
     requires { number < numbers_of width }
     ensures { result ≡ word_from coding width number }
@@ -96,7 +91,7 @@ fn word_of(coding: Coding, width: Width, number: u64) -> u64
     }
 }
 
-/// Whether there is a number of so many bytes for a word.
+/// Whether a word has a number of this width.
 pub(crate) fn is_word_fit(sample: &Sample, word: u64) -> bool
     ensures { result ≡ is_fit sample.now.coding sample.now.width word }
 {
@@ -107,7 +102,6 @@ pub(crate) fn is_word_fit(sample: &Sample, word: u64) -> bool
     }
 }
 
-/// The word for a token.
 pub(crate) fn word_of_token(token: Token) -> u64
     ensures { result ≡ word_for token }
 {
@@ -118,7 +112,7 @@ pub(crate) fn word_of_token(token: Token) -> u64
     }
 }
 
-/// The word that fits and is the nearest.
+/// Returns the nearest word that fits.
 fn nearest_word(sample: &Sample, word: u64) -> u64
     ensures { result ≡ nearest sample.now.coding sample.now.width word }
 {
@@ -134,7 +128,6 @@ fn nearest_word(sample: &Sample, word: u64) -> u64
     }
 }
 
-/// The number for a word that fits.
 fn number_for_word(sample: &Sample, word: u64) -> u64
     requires { is_fit sample.now.coding sample.now.width word ≡ true }
     ensures is { result ≡ number_for sample.now.coding sample.now.width word }
@@ -160,7 +153,6 @@ pub(crate) fn append_sample(out: &mut Vec<u8>, sample: &Sample, word: u64) -> Re
     }
 }
 
-/// Appends a number in this order of bytes.
 fn append_number<O: ByteOrder>(
     out: &mut Vec<u8>,
     width: Width,
@@ -179,7 +171,6 @@ fn append_number<O: ByteOrder>(
     }
 }
 
-/// Appends a number of two bytes in this order.
 #[inline(always)]
 fn append_short<O: ByteOrder>(out: &mut Vec<u8>, number: u16) -> Result<(), AllocError>
     ensures { OnOk result (out.new.items ≡ out.old.items ++ O.bytes_of 2 number) }

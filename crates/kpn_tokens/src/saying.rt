@@ -1,4 +1,4 @@
-//! What a record says.
+//! Reads the token of a record.
 ghost use Rattle.std.specs.Prelude.{◌≡◌, ◌==◌, ◌<◌, IfNone, IfOk, IfSome, length, slice_index};
 ghost use Rattle.std.specs.List.{before_first, position_or_len};
 ghost use Rattle.csv.specs.Reading.{is_bom, strip_bom};
@@ -15,15 +15,15 @@ use kpn_model::{Sort, Token};
 use std::alloc::{AllocError, Global};
 use std::str;
 
-/// Returns the token of a record, of this sort, which is given without its line feed; `None` if it says
-/// nothing, as a blank line, or what is wrong with it. Only a line of fields takes memory.
+/// Returns the token of a record, given without its line feed; `None` if it has none, like a blank line; or
+/// what is wrong with it. Only a line of fields takes memory.
 ///
-/// A line says what its first column does: what stands before `#`, which begins a comment, and before the
-/// first comma, without the blanks around it. A number is written in decimal digits, or in hexadecimal ones
-/// after `0x` or `0X`; it may have a sign, and is at least -2^63 and at most 2^64 - 1. A flag is `true` or
-/// `false`. A sample is as its frame says; a flag is 0 or 1. A byte order mark before a line is skipped.
+/// A line has its token in its first column, before `#`, which begins a comment, and the first comma, without
+/// surrounding blanks. A number is decimal, or hexadecimal after `0x` or `0X`, with or without a sign, from
+/// -2^63 to 2^64 - 1. A flag is `true` or `false`; as a sample, 1 or 0. A byte order mark before a line is
+/// ignored.
 ///
-/// Errors: memory was refused.
+/// Errors: out of memory.
 pub fn token_of_record(
     alloc: Global,
     layout: Layout,
@@ -40,14 +40,14 @@ pub fn token_of_record(
     }
 }
 
-/// A line of a file: how many bytes it has without its line feed, and what it says.
+/// A line: its bytes without the line feed, and what it says.
 #[derive(Clone, Copy, Debug)]
 pub struct Line {
     pub length: usize,
     pub said: Result<Option<Token>, RecordFault>,
 }
 
-/// Returns the first line of a file and what it says, as [`token_of_record`] reads it; `None` if no line feed is there.
+/// Returns the first line of a file and its token, like [`token_of_record`]; `None` without a line feed.
 #[inline(always)]
 pub fn first_line(decimals: Decimals, sort: Sort, bytes: &[u8]) -> Option<Line>
     ensures none { IfNone result (position_or_len is_line_feed bytes.now ≡ length bytes.now) }
@@ -67,7 +67,6 @@ pub fn first_line(decimals: Decimals, sort: Sort, bytes: &[u8]) -> Option<Line>
     any_line_in(decimals, sort, bytes)
 }
 
-/// The first line of the bytes, whatever it has.
 #[cold]
 #[inline(never)]
 fn any_line_in(decimals: Decimals, sort: Sort, bytes: &[u8]) -> Option<Line>
@@ -86,21 +85,18 @@ fn any_line_in(decimals: Decimals, sort: Sort, bytes: &[u8]) -> Option<Line>
     }
 }
 
-/// A text without a byte order mark before it.
 fn without_mark(text: &[u8]) -> &[u8]
     ensures { result.now ≡ strip_bom text.now }
 {
     if is_marked(text) { &text[3..] } else { text }
 }
 
-/// Whether there is a byte order mark before a text.
 fn is_marked(text: &[u8]) -> bool
     ensures { result ≡ is_bom (slice_index text.now 0) (slice_index text.now 1) (slice_index text.now 2) }
 {
     text.len() > 2 && text[0] == 0xEF && text[1] == 0xBB && text[2] == 0xBF
 }
 
-/// The token of a line.
 fn said_by_line(decimals: Decimals, sort: Sort, line: &[u8]) -> Result<Option<Token>, RecordFault>
     ensures said { result ≡ text_said decimals sort line.now }
     ensures sorted { IsSaidOf sort result }
@@ -115,14 +111,13 @@ fn said_by_line(decimals: Decimals, sort: Sort, line: &[u8]) -> Result<Option<To
     token_in(decimals, sort, cell)
 }
 
-/// The first column of a line, without the blanks around it.
+/// The first column, without surrounding blanks.
 fn cell_of(line: &str) -> &str
     ensures { result.now ≡ cell line.now }
 {
     before(before(line, '#'), ',').trim()
 }
 
-/// What stands before a character of ASCII, or all.
 fn before(text: &str, mark: char) -> &str
     requires { mark < 128 }
     ensures { result.now ≡ before_first (λ b. b == mark) text.now }

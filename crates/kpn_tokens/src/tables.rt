@@ -1,4 +1,4 @@
-//! Files in which several channels stand side by side.
+//! Files with several channels side by side.
 ghost use Rattle.std.specs.Prelude.{◌≡◌, ◌++◌, OnOk, codes};
 ghost use Rattle.std.specs.List.{flat_map};
 ghost use Rattle.kpn_tokens.specs.Rows.{cell_text, cells_text, separator_before};
@@ -11,17 +11,17 @@ use crate::samples::{append_sample, word_of_token};
 use kpn_model::Token;
 use std::alloc::AllocError;
 
-/// How several channels stand side by side in a file.
+/// How a file has several channels side by side.
 #[derive(Clone, Copy, Debug, PartialEq, Eq)]
 pub enum Table {
-    /// A row a line, with a field for each channel.
+    /// A row per line, with a field for each channel.
     Rows(Separator),
-    /// A row a frame, with such a sample for each channel, and nothing else.
+    /// A row per frame, with only such a sample for each channel.
     Samples(Sample),
 }
 
 impl Table {
-    /// Returns how a file of one column is laid out.
+    /// Returns the layout of a file of one column.
     pub fn layout(self, decimals: Decimals) -> Layout
         ensures { result ≡ column_layout self 1 0 decimals }
     {
@@ -36,11 +36,10 @@ impl Table {
     }
 }
 
-/// Appends a row of a table, with a cell for each channel: a line of their texts, an absent token as an empty
-/// field; or a frame of their samples, an absent token as 0. A token for which there is no sample is written as
-/// the nearest that there is one for.
+/// Appends a row with a cell for each channel: a line of texts, empty for an absent token; or a frame of
+/// samples, 0 for an absent token, and the nearest for one without a sample.
 ///
-/// Errors: memory was refused. Some cells may have been appended.
+/// Errors: out of memory. Some cells may have been appended.
 pub fn append_row(out: &mut Vec<u8>, table: Table, cells: &[Cell]) -> Result<(), AllocError>
     ensures { OnOk result (out.new.items ≡ out.old.items ++ row_text table cells.now) }
 {
@@ -50,7 +49,6 @@ pub fn append_row(out: &mut Vec<u8>, table: Table, cells: &[Cell]) -> Result<(),
     }
 }
 
-/// Appends cells with a separator between them, and a line feed.
 fn append_line(out: &mut Vec<u8>, separator: Separator, cells: &[Cell]) -> Result<(), AllocError>
     ensures { OnOk result (out.new.items ≡ out.old.items ++ (cells_text separator cells.now ++ codes "\n")) }
 {
@@ -60,7 +58,6 @@ fn append_line(out: &mut Vec<u8>, separator: Separator, cells: &[Cell]) -> Resul
     append_byte(out, b'\n')
 }
 
-/// Appends the text of the cell at a place, after a separator unless it is the first.
 fn append_cell(
     out: &mut Vec<u8>,
     separator: Separator,
@@ -78,7 +75,6 @@ fn append_cell(
     }
 }
 
-/// Appends a sample for each cell.
 fn append_samples(out: &mut Vec<u8>, sample: &Sample, cells: &[Cell]) -> Result<(), AllocError>
     ensures { OnOk result (out.new.items ≡ out.old.items ++ flat_map (λ cell. channel_text sample.now cell.token) cells.now) }
 {
@@ -88,7 +84,6 @@ fn append_samples(out: &mut Vec<u8>, sample: &Sample, cells: &[Cell]) -> Result<
     Ok(())
 }
 
-/// The word for a token of a channel; 0 if there is none.
 fn word_of_channel(token: Option<Token>) -> u64
     ensures { result ≡ channel_word token }
 {

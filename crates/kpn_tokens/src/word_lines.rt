@@ -1,33 +1,32 @@
-//! Lines of decimal digits alone, as most are.
+//! Lines of only decimal digits, the usual case.
 ghost use Rattle.std.specs.Prelude.{◌≡◌, ◌<◌, ◌≤◌, IfSome, length, take};
 ghost use Rattle.std.specs.Str.Parse.{AllDigits, digits_value};
 ghost use Rattle.kpn_tokens.specs.WordLines.{IsNumberLine, IsWordLine};
 
-/// How many digits are read at most: each number of so many fits.
+/// The most digits to read; each number of this many fits 64 bits.
 const MOST_DIGITS: usize = 18;
 
-/// How many digits a text begins with, and the number that they say.
 #[derive(Clone, Copy, Debug, PartialEq, Eq)]
 struct Digits {
     count: usize,
     number: u64,
 }
 
-/// A line of a number: how many bytes it has without its line feed, and the number.
+/// The line's bytes without the line feed, and its number.
 #[derive(Clone, Copy, Debug, PartialEq, Eq)]
 struct NumberLine {
     length: usize,
     number: u64,
 }
 
-/// A line of a word: how many bytes it has without its line feed, and the word.
+/// The line's bytes without the line feed, and its word.
 #[derive(Clone, Copy, Debug, PartialEq, Eq)]
 pub(crate) struct WordLine {
     pub(crate) length: usize,
     pub(crate) word: u64,
 }
 
-/// The first line of a text, if it is a word of 18 digits at most, with a minus before them or not.
+/// The first line, if it is a word of at most 18 digits, with or without a minus.
 #[inline(always)]
 pub(crate) fn word_line_in(text: &[u8]) -> Option<WordLine>
     ensures { IfSome result (λ line. IsWordLine text.now line.length line.word) }
@@ -46,7 +45,6 @@ pub(crate) fn word_line_in(text: &[u8]) -> Option<WordLine>
     })
 }
 
-/// The first line of a text, if it is a number of 18 digits at most.
 #[inline(always)]
 fn number_line_in(text: &[u8]) -> Option<NumberLine>
     ensures { IfSome result (λ line. IsNumberLine text.now line.length line.number) }
@@ -61,7 +59,7 @@ fn number_line_in(text: &[u8]) -> Option<NumberLine>
     })
 }
 
-/// The first digits of a text, 18 at most.
+/// Reads at most 18 digits.
 #[inline(always)]
 fn digits_in(text: &[u8]) -> Digits
     ensures within { result.count ≤ length text.now }

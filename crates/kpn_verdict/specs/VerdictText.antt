@@ -20,8 +20,8 @@ module _ (net : Network) (places : List Place) where
   abbrev pub wait_text : ℕ → ℕ → List ℕ
   wait_text q p = codes " " ++ process_name net q ++ channel_part (slice_get places p)
 
-  -- the circle on which p waits for goal through others, or directly: goal first, then the channel at which a process waits for it, and
-  -- that process, and so on until the channel at which p waits; at most n processes
+  -- the cycle on which p waits for goal, of at most n processes: goal, the channel at which a process waits
+  -- for it, that process, and so on to the channel at which p waits
   abbrev pub circle_text : ℕ → ℕ → ℕ → List ℕ
   circle_text zero goal p = []
   circle_text (suc n) goal p = option_map_or (λ q. (if q == goal then [] else circle_text n goal q) ++ wait_text q p) (waits_for net places p) []
@@ -34,6 +34,5 @@ module _ (net : Network) (places : List Place) where
   verdict_words Full = codes "full"
   verdict_words Memory = codes "memory"
 
-  -- the line of a verdict
   abbrev pub verdict_line : Verdict → List ℕ
   verdict_line verdict = codes "verdict " ++ verdict_words verdict ++ codes "\n"

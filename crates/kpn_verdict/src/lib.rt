@@ -1,5 +1,5 @@
-//! What the end of a run says of the network: whether it finished, ran dry, or waits in a circle; and which
-//! process waits for which.
+//! What the end of a run says of the network: finished, ran dry, or waits in a cycle; and which process waits
+//! for which.
 #![tactic(auto)]
 
 mod text;

@@ -9,11 +9,11 @@ use kpn_network::names::{channel_name, process_name};
 use std::alloc::{AllocError, Global};
 use std::fmt::Write;
 
-/// Returns the line of a verdict on a run that left the processes so, as `verdict ran dry`; of a cycle with
-/// its processes and channels in the order in which tokens would flow, as `verdict cycle ad c2 cp c1`: `cp`
-/// waits at `c2` for `ad`, and `ad` at `c1` for `cp`.
+/// Returns the line of a verdict, like `verdict ran dry`, on a run that left the processes in `places`. A
+/// cycle is in the direction of the tokens: in `verdict cycle ad c2 cp c1`, `cp` waits at `c2` for `ad`, and
+/// `ad` at `c1` for `cp`.
 ///
-/// Errors: memory was refused.
+/// Errors: out of memory.
 pub fn verdict_text<K: Kinds>(
     alloc: Global,
     net: &Net<K>,
@@ -28,9 +28,9 @@ pub fn verdict_text<K: Kinds>(
     Ok(out)
 }
 
-/// Appends the words of a verdict, those that follow `verdict` in its line.
+/// Appends the words after `verdict` in its line.
 ///
-/// Errors: memory was refused.
+/// Errors: out of memory.
 pub fn push_verdict<K: Kinds>(
     out: &mut String,
     net: &Net<K>,
@@ -49,7 +49,6 @@ pub fn push_verdict<K: Kinds>(
     }
 }
 
-/// Appends the cycle of waits on which a process is.
 fn push_cycle<K: Kinds>(
     out: &mut String,
     net: &Net<K>,
@@ -62,7 +61,7 @@ fn push_cycle<K: Kinds>(
     push_circle(out, net, places, net.processes(), process, process)
 }
 
-/// Appends the circle on which a process waits for `goal`, of at most so many processes.
+/// The cycle on which a process waits for `goal`, of at most `most` processes.
 fn push_circle<K: Kinds>(
     out: &mut String,
     net: &Net<K>,
@@ -86,7 +85,6 @@ fn push_circle<K: Kinds>(
     }
 }
 
-/// Appends a process, and the channel at which another waits for it.
 fn push_wait<K: Kinds>(
     out: &mut String,
     net: &Net<K>,

@@ -7,8 +7,8 @@ use crate::waits::is_on_cycle;
 use kpn_model::{End, Kinds, Place, Verdict};
 use kpn_network::Net;
 
-/// Returns what the end of a run says of the network, given where the run left each process, in order, as
-/// `places_of` of kpn_report has it.
+/// Returns what the end of a run says of the network, given each process's place, in order (`places_of` of
+/// `kpn_report`).
 pub fn verdict_of<K: Kinds>(net: &Net<K>, places: &[Place], end: End) -> Verdict
     ensures { IsVerdict net.now places.now end result }
 {
@@ -21,7 +21,6 @@ pub fn verdict_of<K: Kinds>(net: &Net<K>, places: &[Place], end: End) -> Verdict
     }
 }
 
-/// What a deadlock says.
 fn verdict_of_deadlock<K: Kinds>(net: &Net<K>, places: &[Place]) -> Verdict
     ensures { IsVerdict net.now places.now End.Deadlock result }
 {
@@ -31,7 +30,6 @@ fn verdict_of_deadlock<K: Kinds>(net: &Net<K>, places: &[Place]) -> Verdict
     }
 }
 
-/// The process of least number that waits for itself, directly or through others.
 fn first_on_cycle<K: Kinds>(net: &Net<K>, places: &[Place]) -> Option<usize>
     ensures some { IfSome result (IsFirstOnCycle net.now places.now) }
     ensures none { result ≡ None → HasNoCycle net.now places.now }

@@ -1,4 +1,4 @@
-//! Which process waits for which after a run, and the cycles of these waits.
+//! Which process waits for which, and the cycles of these waits.
 ghost use Rattle.std.specs.Prelude.{◌≡◌, ◌<◌, false, length, slice_get};
 ghost use Rattle.std.specs.Option.{option_map_or};
 ghost use Rattle.kpn_model.specs.Waits.{other_end, waits_for, is_met, is_on_cycle, stands_at_read, stands_at_write, is_jammed};
@@ -6,7 +6,7 @@ ghost use Rattle.kpn_model.specs.Waits.{other_end, waits_for, is_met, is_on_cycl
 use kpn_model::{Kinds, Place};
 use kpn_network::Net;
 
-/// The process that must act before a process with this place can go on.
+/// Returns the process that must act before a process with this place can continue.
 fn other_end<K: Kinds>(net: &Net<K>, place: Place) -> Option<usize>
     ensures { result ≡ other_end net.now place }
 {
@@ -17,14 +17,14 @@ fn other_end<K: Kinds>(net: &Net<K>, place: Place) -> Option<usize>
     }
 }
 
-/// Returns the place in which a run left a process, if that is known.
+/// Returns the place in which a run left a process, if known.
 pub fn place_at(places: &[Place], p: usize) -> Option<Place>
     ensures { result ≡ slice_get places.now p }
 {
     places.get(p).copied()
 }
 
-/// The process for which a process waits.
+/// Returns the process for which a process waits.
 pub(crate) fn waits_for<K: Kinds>(net: &Net<K>, places: &[Place], p: usize) -> Option<usize>
     ensures { result ≡ waits_for net.now places.now p }
 {
@@ -34,8 +34,7 @@ pub(crate) fn waits_for<K: Kinds>(net: &Net<K>, places: &[Place], p: usize) -> O
     }
 }
 
-/// Whether `goal` is reached from a process in at most `steps` steps, each from a process to the one
-/// for which it waits.
+/// Whether `goal` is reached from a process in at most `steps` waits.
 fn is_met<K: Kinds>(net: &Net<K>, places: &[Place], steps: usize, goal: usize, from: usize) -> bool
     ensures { result ≡ is_met net.now places.now steps goal from }
 {
@@ -50,14 +49,13 @@ fn is_met<K: Kinds>(net: &Net<K>, places: &[Place], steps: usize, goal: usize, f
     false
 }
 
-/// Returns whether a process waits for itself, directly or through others.
+/// Returns whether a process waits for itself, directly or indirectly.
 pub fn is_on_cycle<K: Kinds>(net: &Net<K>, places: &[Place], p: usize) -> bool
     ensures { result ≡ is_on_cycle net.now places.now p }
 {
     is_met(net, places, net.processes(), p, p)
 }
 
-/// Whether a process with this place waits for a token of this channel.
 fn stands_at_read(place: Option<Place>, c: usize) -> bool
     ensures { result ≡ option_map_or (stands_at_read c) place false }
 {
@@ -67,7 +65,6 @@ fn stands_at_read(place: Option<Place>, c: usize) -> bool
     }
 }
 
-/// Whether a process with this place waits for room in this channel.
 fn stands_at_write(place: Option<Place>, c: usize) -> bool
     ensures { result ≡ option_map_or (stands_at_write c) place false }
 {
@@ -77,8 +74,8 @@ fn stands_at_write(place: Option<Place>, c: usize) -> bool
     }
 }
 
-/// Returns whether a process on a cycle of waits waits for this channel: its reader for a token, or its
-/// writer for room. No process of such a cycle goes on unless a channel grows.
+/// Returns whether a process on a cycle of waits waits at this channel, for a token or for room. No process
+/// of such a cycle continues unless a channel grows.
 pub fn is_jammed<K: Kinds>(net: &Net<K>, places: &[Place], c: usize) -> bool
     requires { c < length net.now.channels }
     ensures { result ≡ is_jammed net.now places.now c }
