@@ -1,5 +1,5 @@
--- Running sums (examples/running_sums.toml): an adder adds each number to the sum before it, which comes back through a copy. The
--- first sum before it is a start token, 0.
+-- Running sums (examples/running_sums.toml): an adder adds each number to the sum before it, which comes back
+-- through a copy. The first such sum is a start token, 0.
 use Rattle.std.specs.Prelude.{◌≡◌, ℕ, ◌+◌, ◌%◌, ◌^◌, ◌<◌, List, [], ◌∷◌, length, get_or, take, sum}
 use Rattle.kpn_model.specs.declared.token.Token.{Token}
 use Rattle.kpn_model.specs.Network.{Network}
@@ -19,15 +19,16 @@ abbrev pub sums_so_far : ℕ → List ℕ → List ℕ
 sums_so_far s [] = []
 sums_so_far s (x ∷ xs) = (s + x) % 2 ^ 64 ∷ sums_so_far (s + x) xs
 
--- from the source to the adder, from the copy back to the adder, from the adder to the copy, and to the sink
+-- the channels from the source to the adder, from the copy back to the adder, from the adder to the copy, and
+-- to the sink
 abbrev pub running_streams : List ℕ → ℕ → List Token
 running_streams xs =
     on_channels (numbers xs ∷ numbers (0 ∷ sums_so_far 0 xs) ∷ numbers (sums_so_far 0 xs) ∷ numbers (sums_so_far 0 xs) ∷ [])
 
--- of whatever arrives the network computes the sums so far
+-- for any input the network computes the sums so far
 abbrev pub RunningSums : Type 0
 RunningSums = (xs : List ℕ) (from n k : ℕ) → HasStreams standard (running_sums xs from n k) (running_streams (arriving xs from n))
 
--- there is one for each number, and at place k stands the sum of the numbers up to there
+-- each of them is the sum of the numbers up to its place
 abbrev pub SumsAreSums : Type 0
 SumsAreSums = (xs : List ℕ) (k : ℕ) → k < length xs → get_or (sums_so_far 0 xs) k 0 ≡ sum (take (k + 1) xs) % 2 ^ 64
