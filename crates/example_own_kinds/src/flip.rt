@@ -77,8 +77,7 @@ pub struct FlipBody {
 }
 
 impl FlipBody {
-    /// Makes a body of a card with a signature. `call` must accept each line of the table, and return its
-    /// answer.
+    /// Makes a body of a card with a signature. `call` must accept each line of the table, and return its answer.
     pub fn new(card: Card, call: Call) -> Self
         requires signed { IsSome (ports card) }
         requires callable { IsCallable FlipLine (pre call) }

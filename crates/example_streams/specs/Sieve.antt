@@ -1,5 +1,4 @@
--- A sieve (examples/sieve.toml): three stages, each a copy, a test whether its number divides a word, and a
--- switch.
+-- A sieve (examples/sieve.toml): three stages, each a copy, a test whether its number divides a word, and a switch.
 use Rattle.std.specs.Prelude.{ℕ, ◌%◌, ◌==◌, not, List, [], ◌∷◌, filter, map}
 use Rattle.kpn_model.specs.declared.token.Token.{Token}
 use Rattle.kpn_model.specs.declared.token.Token.TheVariants.{Flag}
@@ -10,8 +9,7 @@ use Rattle.kpn_streams.specs.Solving.{HasStreams}
 use Rattle.test_laws.specs.Building.{count, sink, copy, divides, switch, words, flags, holding, numbers, network}
 use Rattle.example_streams.specs.Arriving.{arriving, on_channels}
 
--- the stages test for a, b and c; the source counts n numbers from `from` on, after xs; sink i takes `takes
--- i`
+-- the stages test for a, b and c; the source counts n numbers from `from` on, after xs; sink i takes `takes i`
 abbrev pub sieve : ℕ → ℕ → ℕ → List ℕ → ℕ → ℕ → (ℕ → ℕ) → Network
 sieve a b c xs from n takes =
     network

@@ -19,8 +19,7 @@ module _ (kinds : Family) (title : ℕ → List ℕ × ℕ) (direction : Directi
   abbrev pub digest_picture : Network → Digest → List ℕ
   digest_picture net d = picture direction title net (Some d.cause) d.places d.capacities d.rests
 
-  -- the picture of a run to M that ended for this cause; if the budget was spent or memory ran out, only the
-  -- cause
+  -- the picture of a run to M that ended for this cause; if the budget was spent or memory ran out, only the cause
   abbrev pub run_picture : Network → End → List Entry → State → List ℕ
   run_picture net cause E M = if has_report cause then digest_picture net (digest kinds net cause E M) else picture direction title net (Some cause) [] [] []
 

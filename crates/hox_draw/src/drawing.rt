@@ -17,9 +17,8 @@ use std::rt::Clock;
 use std::sync::Wait;
 use std::thread::Threads;
 
-/// Reads a description, sets the start tokens of the request's files and the request's budget, and returns
-/// the picture of the network: as it is, or, if `is_run`, as a run with the request's 1 to 16 workers left
-/// it.
+/// Reads a description, sets the start tokens of the request's files and the request's budget, and returns the
+/// picture of the network: as it is, or, if `is_run`, as a run with the request's 1 to 16 workers left it.
 ///
 /// Errors: see [`Fault`], except `NoShown` and `NoOutput`; `Lost` only with several workers.
 pub fn draw<K: Computes + Titled, I: Source, R: Wait + Clock + Threads + Sync>(

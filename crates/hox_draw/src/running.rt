@@ -18,10 +18,8 @@ use std::sync::Wait;
 use std::thread::Threads;
 
 /// Runs a network with 1 to 16 workers, and returns the picture of how the run left it, however it ended. A
-/// single worker is the calling thread.
-///
-/// Errors: `Memory`: out of memory, before the run or for the picture. `Lost`: the machine rejected an answer
-/// of one of several workers.
+/// single worker is the calling thread. Errors: `Memory`: out of memory, before the run or for the picture.
+/// `Lost`: the machine rejected an answer of one of several workers.
 pub(crate) fn draw_run<K: Computes + Titled, R: Wait + Clock + Threads + Sync>(
     rt: &R,
     alloc: Global,

@@ -106,8 +106,7 @@ module _ (clash : List ℕ → Bool → List ℕ → Bool → Option Bool) (choi
   IsNoEnds (Unread file error) = ⊥
   IsNoEnds (Unwritten file error) = ⊥
 
--- an input file at its tokens: their layout, the samples per second, if stated, and what is left to read, if
--- known
+-- an input file at its tokens: their layout, the samples per second, if stated, and what is left to read, if known
 pub record Opening : Type 0 where
   pub layout : Layout
   pub rate : Option ℕ

@@ -23,7 +23,6 @@ use std::alloc::{AllocError, Global};
 const LINE_BYTES: usize = 64;
 
 /// Writes that the description, with the tokens of these files, is a network. Returns the exit status.
-///
 /// Errors: see [`Stop`].
 pub(crate) fn check<'a, K: Kinds, S: FileSystem>(
     alloc: Global,

@@ -23,9 +23,7 @@ use std::sync::Wait;
 use std::thread::Threads;
 
 /// Draws a network, with the tokens of files, as it is or as a run left it, and writes the picture to
-/// standard output. Returns the exit status.
-///
-/// Errors: see [`Stop`].
+/// standard output. Returns the exit status. Errors: see [`Stop`].
 pub(crate) fn draw<'a, K: Computes + Titled, S: FileSystem, R: Wait + Clock + Threads + Sync>(
     rt: &R,
     alloc: Global,

@@ -36,9 +36,7 @@ pub struct Ran<'a> {
 }
 
 /// Runs a network on the tokens of files; writes the report, unless the command is quiet, and each stream to
-/// its file. `progress` receives the progress of the run.
-///
-/// Errors: see [`Stop`].
+/// its file. `progress` receives the progress of the run. Errors: see [`Stop`].
 pub(crate) fn run<'a, K: Computes, S: FileSystem, R: Wait + Clock + Threads + Sync, P: Progress>(
     rt: &R,
     alloc: Global,
@@ -65,9 +63,7 @@ pub(crate) fn run<'a, K: Computes, S: FileSystem, R: Wait + Clock + Threads + Sy
     }
 }
 
-/// Writes the result of a run.
-///
-/// Errors: out of memory. Then nothing is written.
+/// Writes the result of a run. Errors: out of memory. Then nothing is written.
 fn ran_of<'a, S: FileSystem>(
     alloc: Global,
     files: &mut S,

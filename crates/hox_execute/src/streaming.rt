@@ -30,8 +30,7 @@ use kpn_net::{Net, NetFault, Sketch};
 use std::alloc::{AllocError, Global};
 use std::io;
 
-/// The ends of a stream: the channels and files of its inputs, and of its outputs, those with a file alone
-/// first.
+/// The ends of a stream: the channels and files of its inputs, and of its outputs, those with a file alone first.
 #[derive(Drop)]
 pub struct Ends<'a> {
     pub inputs: Vec<Pair<'a>>,
@@ -84,9 +83,8 @@ pub enum StreamStop<'a> {
     },
 }
 
-/// Runs the network of a description on tokens from files as they are read, and writes its outputs to files
-/// as they come, until the network, an input or an output ends the stream. A process that only reads an
-/// output stops at once.
+/// Runs the network of a description on tokens from files as they are read, and writes its outputs to files as they
+/// come, until the network, an input or an output ends the stream. A process that only reads an output stops at once.
 ///
 /// Errors: see [`StreamStop`].
 pub fn stream<'a, K: Computes, S: FileSystem>(

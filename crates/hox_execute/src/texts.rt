@@ -29,9 +29,7 @@ pub struct FileNote {
     pub is_misfit: bool,
 }
 
-/// Returns what is written to each of these files.
-///
-/// Errors: out of memory.
+/// Returns what is written to each of these files. Errors: out of memory.
 pub(crate) fn file_notes(alloc: Global, files: &[StreamFile]) -> Result<Vec<FileNote>, AllocError>
     ensures { IfOk result (λ notes. notes.items ≡ map file_note files.now) }
 {
@@ -64,9 +62,7 @@ pub(crate) fn rate_of(files: &[TokenFile]) -> u32
     USUAL_RATE
 }
 
-/// Returns the contents of the files of streams, in order; `pairs` and `files` correspond.
-///
-/// Errors: out of memory.
+/// Returns the contents of the files of streams, in order; `pairs` and `files` correspond. Errors: out of memory.
 pub(crate) fn file_texts(
     alloc: Global,
     rate: u32,

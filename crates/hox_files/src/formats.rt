@@ -65,8 +65,7 @@ fn marked<'a>(is_unsigned: bool, format: Format<'a>) -> Format<'a>
     }
 }
 
-/// Returns the format for a channel: the one given for it, or for all, or else the default of the file's
-/// name.
+/// Returns the format for a channel: the one given for it, or for all, or else the default of the file's name.
 fn said_for<'a>(texts: &[&'a str], channel: &str, file: &str) -> Result<Format<'a>, FormatFault<'a>>
     ensures said { seen result ≡ said_for (map (λ t. t.now) texts.now) channel.now file.now }
     ensures fault { IfErr result (λ e. IsNoFormat (map (λ t. t.now) texts.now) (FormatStop.Unknown e)) }

@@ -42,8 +42,7 @@ pub enum ReadError {
     Memory,
 }
 
-/// The request for a network, with the tokens that were read; and the pairs of its token files and output
-/// files.
+/// The request for a network, with the tokens that were read; and the pairs of its token files and output files.
 #[derive(Drop)]
 pub struct Asked<'a> {
     pub tokens: Vec<Pair<'a>>,
@@ -53,9 +52,8 @@ pub struct Asked<'a> {
 
 /// Reads the files of tokens, and returns the request.
 ///
-/// Errors: a text without channel and file, or without format; a format for no file; standard input named
-/// twice; two uses of files that clash; the first file that can't be read or is faulty before its tokens; or
-/// out of memory.
+/// Errors: a text without channel and file, or without format; a format for no file; standard input named twice; two
+/// uses of files that clash; the first file that can't be read or is faulty before its tokens; or out of memory.
 pub fn asked_of<'a, S: FileSystem>(
     alloc: Global,
     files: &S,

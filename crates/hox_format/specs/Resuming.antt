@@ -39,8 +39,7 @@ pub record IsBegun (form : Form) (place count : ℕ) (known : Option (List ℕ))
   pub rate_is : rate ≡ body.rate
   pub left_is : IfSome known (λ bytes. left ≡ Some (body_bytes body bytes))
 
--- why a file was not opened: its first bytes determine a fault before its records; or a read failed, or out
--- of memory
+-- why a file was not opened: its first bytes determine a fault before its records; or a read failed, or out of memory
 abbrev pub IsUnbegun : Form → ℕ → ℕ → Option (List ℕ) → BeginFault → Type 0
 IsUnbegun form place count known (Head fault) = (front : List ℕ) × (last : Bool) × IsBodyResult form place count front last (Err fault) × IfSome known (λ bytes. IsFront front bytes last)
 IsUnbegun form place count known (Unread error) = Unit {0}

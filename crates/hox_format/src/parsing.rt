@@ -24,17 +24,15 @@ pub enum FormatFault<'a> {
 /// Parses a format, `NAME[,KEY[=VALUE]..]`. A key is given at most once.
 ///
 /// - `text`: a token per line, with the keys `digits=N` (digits after the point, 0 to 19) and `unsigned`.
-/// - `csv`: a column, with `column=N` (from 1) or `column=NAME` (implies a row of names; digits alone are a
-///   number), `delimiter=D` (`comma`, `semicolon`, `tab`, or `;` or a tab itself), `header`, `digits=N` and
-///   `unsigned`.
+/// - `csv`: a column, with `column=N` (from 1) or `column=NAME` (implies a row of names; digits alone are a number),
+///   `delimiter=D` (`comma`, `semicolon`, `tab`, or `;` or a tab itself), `header`, `digits=N` and `unsigned`.
 /// - `wav`: a channel of a WAV file, with `channel=N` (from 1), `bits=N` (8, 16, 24 or 32; by default 16),
 ///   `rate=N` (1 to 2^32 - 1) and `clip`.
 /// - `s8`, `u8`, and `s16`, `s24`, `s32`, `s64` and `u64`, each alone or with `le` or `be`: a channel of
 ///   samples, by default little-endian, with `channel=N` and `channels=N` (1 to 65,535; the channel is at
 ///   most the number of channels, if both are given), and `clip`.
 ///
-/// Errors: the first name, key or value that is none of these; else the first key given twice. See
-/// [`FormatFault`].
+/// Errors: the first name, key or value that is none of these; else the first key given twice. See [`FormatFault`].
 pub fn format_of<'a>(text: &'a str) -> Result<Format<'a>, FormatFault<'a>>
     ensures { seen result ≡ format_said text.now }
 {

@@ -5,8 +5,7 @@ ghost use Rattle.std.specs.Option.{option_map_or};
 use kpn_front::Source;
 use std::io;
 
-/// A source whose first bytes were already read: it yields these again, then reads on, up to a total size, if
-/// known.
+/// A source whose first bytes were already read: it yields these again, then reads on, up to a total size, if known.
 #[derive(Drop)]
 pub struct Resumed<S> {
     pub(crate) held: Vec<u8>,

@@ -13,8 +13,7 @@ pub struct Shared {
     pub head: Head,
 }
 
-/// What precedes the tokens in a file: nothing, a row of names, or a WAV head, with the samples per second if
-/// stated.
+/// What precedes the tokens in a file: nothing, a row of names, or a WAV head, with the samples per second if stated.
 #[derive(Clone, Copy, Debug, PartialEq, Eq)]
 pub enum Head {
     Nothing,
@@ -22,9 +21,8 @@ pub enum Head {
     Wav(Option<u32>),
 }
 
-/// Returns what `count` channels in a file of this format share. Returns `None` if the file is for one
-/// channel: if a line has one token, or the format chooses a column or channel, or states another number of
-/// channels.
+/// Returns what `count` channels in a file of this format share. Returns `None` if the file is for one channel: if a
+/// line has one token, or the format chooses a column or channel, or states another number of channels.
 pub fn shared_by(format: &Format<'_>, count: usize) -> Option<Shared>
     ensures { result ≡ shared_by (form format.now) count }
 {

@@ -49,8 +49,7 @@ fn net_of_text<K: Kinds>(alloc: Global, text: &[u8]) -> Result<Net<K>, NetFault>
     Net::check(alloc, &meant)
 }
 
-/// Returns the sketch of a text as `load_by_ports` completes it; `None` if the text describes none, or out of
-/// memory.
+/// Returns the sketch of a text as `load_by_ports` completes it; `None` if the text describes none, or out of memory.
 pub fn sketch_by_ports<K: Kinds>(alloc: Global, text: &[u8]) -> Option<Sketch>
     ensures { IfSome result (λ sketch. (described : SketchV) × Describes text.now described × (sketch ≡ as_meant K.named K.signature text.now described)) }
 {

@@ -6,9 +6,7 @@ use kpn_model::{Channel, Kinds, Listed, Process, Text};
 use kpn_network::{Net, Parts};
 use std::alloc::{AllocError, Global};
 
-/// Copies the parts of a network.
-///
-/// Errors: out of memory.
+/// Copies the parts of a network. Errors: out of memory.
 pub(crate) fn parts_of<K: Kinds>(alloc: Global, net: &Net<K>) -> Result<Parts, AllocError>
     ensures { IfOk result (λ parts. network_of parts ≡ net.now) }
 {

@@ -36,9 +36,8 @@ pub struct PresetFault {
 }
 
 /// Replaces the start tokens of the channels that the files name, one file after the other. A channel's
-/// capacity becomes at least their number.
-///
-/// Errors: the first faulty file, see [`FileFault`]. The files before it have taken effect.
+/// capacity becomes at least their number. Errors: the first faulty file, see [`FileFault`]. The files before
+/// it have taken effect.
 pub(crate) fn preset<K: Kinds>(
     alloc: Global,
     parts: &mut Parts,

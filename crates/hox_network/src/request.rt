@@ -25,9 +25,8 @@ pub struct StreamAs<W> {
     pub written: W,
 }
 
-/// How to run a described network: with 1 to 16 workers; with this budget, in entries, instead of the
-/// description's; with start tokens from these files; with the streams of `show` in the report, and those of
-/// `outputs` as files.
+/// How to run a described network: with 1 to 16 workers; with this budget, in entries, instead of the description's;
+/// with start tokens from these files; with the streams of `show` in the report, and those of `outputs` as files.
 #[derive(Drop)]
 pub struct Request {
     pub workers: usize,

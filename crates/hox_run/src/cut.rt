@@ -16,9 +16,7 @@ use std::fmt::Write;
 
 /// Appends what follows the verdict on a run that was cut, else nothing: for each process, whether it was
 /// ready, has stopped, or for which channel it waits; for each channel of `show` a line `prefix` with its
-/// stream so far.
-///
-/// Errors: out of memory.
+/// stream so far. Errors: out of memory.
 pub(crate) fn push_after_verdict<K: Kinds, E: Entries>(
     alloc: Global,
     out: &mut String,

@@ -20,9 +20,8 @@ pub struct StreamFile {
     pub is_misfit: bool,
 }
 
-/// Returns the streams of these channels, each up to the first token that does not fit its file.
-///
-/// Errors: out of memory.
+/// Returns the streams of these channels, each up to the first token that does not fit its file. Errors: out
+/// of memory.
 pub(crate) fn stream_files<K: Kinds, E: Entries>(
     alloc: Global,
     net: &Net<K>,

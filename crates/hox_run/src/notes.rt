@@ -14,8 +14,7 @@ use kpn_report::Entries;
 use kpn_state::Standing;
 use std::alloc::{AllocError, Global};
 
-/// A channel whose writer stopped without a put: how many start tokens it had, and how many of them were not
-/// read.
+/// A channel whose writer stopped without a put: how many start tokens it had, and how many of them were not read.
 #[derive(Drop)]
 pub struct SourceNote {
     pub channel: Text,
@@ -30,9 +29,7 @@ pub struct Notes {
     pub budget: Option<u64>,
 }
 
-/// Returns what a run left unused.
-///
-/// Errors: out of memory.
+/// Returns what a run left unused. Errors: out of memory.
 pub(crate) fn notes_of<K: Kinds, E: Entries>(
     alloc: Global,
     run: &Ended<'_, K, E>,

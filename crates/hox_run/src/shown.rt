@@ -27,9 +27,7 @@ pub struct Wanted<'a> {
     pub outputs: &'a [ChannelAs<Layout>],
 }
 
-/// Appends a line `stream` for each channel of `show`, if the run has a report.
-///
-/// Errors: out of memory.
+/// Appends a line `stream` for each channel of `show`, if the run has a report. Errors: out of memory.
 pub(crate) fn push_before_verdict<K: Kinds, E: Entries>(
     alloc: Global,
     out: &mut String,
@@ -46,9 +44,7 @@ pub(crate) fn push_before_verdict<K: Kinds, E: Entries>(
     }
 }
 
-/// Appends a line for the stream of each channel, beginning with `word`.
-///
-/// Errors: out of memory.
+/// Appends a line for the stream of each channel, beginning with `word`. Errors: out of memory.
 pub(crate) fn push_streams<K: Kinds, E: Entries>(
     alloc: Global,
     out: &mut String,

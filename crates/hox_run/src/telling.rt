@@ -27,9 +27,8 @@ use kpn_tokens::Decimals;
 use kpn_verdict::{verdict_of, verdict_text};
 use std::alloc::{AllocError, Global};
 
-/// The result of a run: its exit status, its report with the verdict, the files of the wanted streams, and
-/// what it left unused. The report on a run that was cut also has where it left each process, and the streams
-/// to show so far.
+/// The result of a run: its exit status, its report with the verdict, the files of the wanted streams, and what it
+/// left unused. The report on a run that was cut also has where it left each process, and the streams to show so far.
 #[derive(Drop)]
 pub struct Told {
     pub status: Status,
@@ -44,9 +43,7 @@ struct Judged {
     report: String,
 }
 
-/// Returns the result of a run that ended, with these entries and the wanted streams.
-///
-/// Errors: out of memory.
+/// Returns the result of a run that ended, with these entries and the wanted streams. Errors: out of memory.
 pub(crate) fn told_of<K: Kinds, H: Keeper, E: Entries>(
     alloc: Global,
     chronicle: &Chronicle<K, H>,

@@ -25,7 +25,7 @@ abbrev pub IsRefused : Layout → Sort → List ℕ → Bool → Refusal → Typ
 IsRefused layout sort bytes last (Fault fault) = (record_said layout sort (first layout bytes) ≡ Err fault) × (0 < length bytes) × IsWhole layout bytes last
 IsRefused layout sort bytes last TooLong = 4096 < length (first layout bytes)
 
--- what these bytes begin with: a record, one that is rejected, or no record yet; or out of memory
+-- what these bytes begin with: a record, a rejected one, or no record yet; or out of memory
 abbrev pub IsNext : Layout → Sort → List ℕ → Bool → Next → Type 0
 IsNext layout sort bytes last (Record said used) =
     (record_said layout sort (first layout bytes) ≡ Ok said) × (0 < length bytes) × (drop used bytes ≡ rest layout bytes) × (used ≤ length bytes) × IsWhole layout bytes last × (length (first layout bytes) ≤ 4096)

@@ -30,12 +30,10 @@ pub record Takes (p q : InletView) (tokens : List Token) : Type 0 where
   pub passes : Passes p.layout p.sort (unread p) (unread q) tokens records
   pub held : length p.kept ≤ 8192 → length q.kept ≤ 8192
 
--- each token has a record in the layout, or is clipped
 abbrev pub are_written : Layout → List Token → Bool
 are_written layout tokens = clips layout || list_all (fits layout) tokens
 
--- the tokens that are written: those before the first that does not fit and is not clipped; none after such a
--- misfit
+-- the tokens before the first that does not fit and is not clipped; none after such a misfit
 abbrev pub written_of : Layout → Bool → List Token → List Token
 written_of layout misfit tokens = if misfit then [] else if clips layout then tokens else take_while (fits layout) tokens
 
@@ -43,8 +41,7 @@ written_of layout misfit tokens = if misfit then [] else if clips layout then to
 abbrev pub clipped_of : Layout → Bool → List Token → ℕ
 clipped_of layout misfit tokens = if misfit then 0 else if clips layout then misfits layout tokens else 0
 
--- these tokens were written to a sink, up to the first that does not fit, unless a write failed; at most
--- 4,096 bytes wait
+-- these tokens were written to a sink, up to the first misfit, unless a write failed; at most 4,096 bytes wait
 pub record Writes (p q : OutletView) (tokens : List Token) : Type 0 where
   pub channel : q.channel ≡ p.channel
   pub layout : q.layout ≡ p.layout
@@ -61,7 +58,6 @@ IsWriteFault q Failed = q.has_failed ≡ true
 IsWriteFault q Misfit = q.is_misfit ≡ true
 IsWriteFault q Memory = q.has_failed ≡ true
 
--- a source was read; no record was taken
 pub record ReadsOn (p q : InletView) : Type 0 where
   pub channel : q.channel ≡ p.channel
   pub layout : q.layout ≡ p.layout
@@ -73,7 +69,7 @@ pub record ReadsOn (p q : InletView) : Type 0 where
   pub tokens : q.tokens ≡ p.tokens
   pub records : q.records ≡ p.records
 
--- the next record needs another read: it is incomplete, and the source is not at its end
+-- the next record is incomplete, and the source is not at its end
 abbrev pub wants_more : InletView → Bool
 wants_more p = not p.is_over && not (has_record p.layout p.kept)
 

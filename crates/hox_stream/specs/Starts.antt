@@ -35,7 +35,6 @@ abbrev pub outer_process : Way → Channel → ℕ
 outer_process In c = c.writer
 outer_process Out c = c.reader
 
--- a channel is named twice
 abbrev pub is_twice : List ℕ → List ℕ → Bool
 is_twice inputs outputs = (has_twice inputs || has_twice outputs) || list_any (is_among outputs) inputs
 
@@ -46,7 +45,6 @@ pub record IsStart (kinds : Family) (s : FlowView) (inputs outputs : List ℕ) :
   pub outputs_are : outputs ≡ s.outputs
   pub apart : AreApart inputs outputs
 
--- the fault of a sketch that describes no network
 abbrev pub IsNoNetwork : (List ℕ → Option (ℕ × ℕ)) → (Card → Option Signature) → Sketch → NetFault → Type 0
 IsNoNetwork named ports sketch fault = fault ≢ NoMemoryForNet → first_fault named ports sketch ≡ Some fault
 
@@ -63,7 +61,7 @@ module _ (kinds : Family) (net : Network) where
   abbrev pub is_busy : Way → ℕ → Bool
   is_busy way c = not (stops_at_once kinds (cards_in net) (outer_process way (channel_of net c)))
 
-  -- the flow is at the start of the network; its inputs and outputs have only the outside at one end
+  -- the flow is at the start of the network; only the outside is at its ends
   pub record IsFresh (s : FlowView) : Type 0 where
     pub network : s.network ≡ net
     pub state : s.state ≡ start kinds net
@@ -71,7 +69,7 @@ module _ (kinds : Family) (net : Network) where
     pub counts : s.counts ≡ nothing_counted
     pub ends : AreEnds kinds net s.inputs s.outputs
 
-  -- it is fresh, its inputs are the channels of the first names, its outputs those of the others
+  -- and its inputs are the channels of the first names, its outputs those of the others
   pub record IsStarted (fed drained : List (List ℕ)) (s : FlowView) : Type 0 where
     pub fresh : IsFresh s
     pub inputs : AreNamed net fed s.inputs
@@ -84,7 +82,7 @@ module _ (kinds : Family) (net : Network) where
       (k < length names) × ((c : ℕ) × (number_of_channel net (get_or names k []) ≡ Some c) × (is_busy way c ≡ true) × IsNameOf net (outer_process way (channel_of net c)) name)
   IsNameFault way names NoMemory = Unit {0}
 
-  -- why a stream is not opened; its description may be at fault
+  -- why a stream is not opened
   abbrev pub IsStreamFault : (NetFault → Type 0) → List (List ℕ) → List (List ℕ) → StreamFault → Type 0
   IsStreamFault no_network fed drained (Description fault) = no_network fault
   IsStreamFault no_network fed drained (Input fault) = IsNameFault In fed fault

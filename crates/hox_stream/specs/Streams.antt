@@ -42,7 +42,7 @@ pub record AreOutsApart (outs : OutsView) : Type 0 where
   pub tables : (j k h i : ℕ) → j < length outs.tables → k < length outs.tables → h < length (table_at outs.tables j).lanes → i < length (table_at outs.tables k).lanes
       → channel_at (table_at outs.tables j) h ≡ channel_at (table_at outs.tables k) i → (j ≡ k) × (h ≡ i)
 
--- events at its ends lead the flow on. The records read from a source were fed into its channel. The tokens
+-- events at its ends lead the flow on. The records read from a source were fed into its channel; the tokens
 -- drained from a channel were written to its sink, or to its column, or wait there for their rows
 pub record Streams (kinds : Family) (s t : FlowView) (ins ins_after : List InletView) (outs outs_after : OutsView) : Type 0 where
   pub same : IsSameNet s t
@@ -66,12 +66,10 @@ pub record FaultsStay (p q : OutletView) : Type 0 where
   pub failed : p.has_failed ≡ true → q.has_failed ≡ true
   pub misfit : q.is_misfit ≡ p.is_misfit
 
--- a failed table stays failed; what waits in its columns stays
 pub record TableStays (p q : TableView) : Type 0 where
   pub failed : p.has_failed ≡ true → q.has_failed ≡ true
   pub lanes : q.lanes ≡ p.lanes
 
--- there are as many sinks as before, and their faults stay
 abbrev pub AllFaultsStay : List OutletView → List OutletView → Type 0
 AllFaultsStay sinks after = (length after ≡ length sinks) × ((k : ℕ) → FaultsStay (outlet_at sinks k) (outlet_at after k))
 
@@ -81,14 +79,13 @@ AllTablesStay tables after = (length after ≡ length tables) × ((k : ℕ) → 
 abbrev pub AllStay : OutsView → OutsView → Type 0
 AllStay outs after = AllFaultsStay outs.sinks after.sinks × AllTablesStay outs.tables after.tables
 
--- a process waits for a token of this source
 abbrev pub is_waited_for : FlowView → InletView → Bool
 is_waited_for s p = is_among s.unended p.channel && starves s.network s.standings p.channel
 
 abbrev pub NoneIsWaitedFor : FlowView → List InletView → Type 0
 NoneIsWaitedFor s ins = (k : ℕ) → k < length ins → is_waited_for s (inlet_at ins k) ≡ false
 
--- all that waits in each table was written, including rows that are not full
+-- all that waits in each table was written, with gaps
 abbrev pub AllEnd : List TableView → List TableView → Type 0
 AllEnd tables after = (length after ≡ length tables) × ((k : ℕ) → k < length tables → EndsTable (table_at tables k) (table_at after k))
 
@@ -109,8 +106,8 @@ IsFinish kinds s ins outs Idle = NoneIsWaitedFor s ins
 IsFinish kinds s ins outs Memory = Unit {0}
 IsFinish kinds s ins outs Cut = Unit {0}
 
--- events led the flow on until it ended for this cause, or until writing the rows that were not full failed.
--- What happened is a run of the network that held all its input from the start
+-- events led the flow on until it ended for this cause, or until writing the last rows failed. What happened
+-- is a run of the network that held all its input from the start
 pub record StreamsOut (kinds : Family) (s t : FlowView) (ins ins_after : List InletView) (before after : OutsView) (finish : Finish) : Type 0 where
   pub between : List TableView
   pub streams : Streams kinds s t ins ins_after before (outs after.sinks between)

@@ -21,7 +21,6 @@ lane_at p i = get_or p.lanes i no_lane
 abbrev pub heads_of : List LaneView → List HeadView
 heads_of lanes = map (λ lane. lane.head) lanes
 
--- the waiting tokens of columns
 abbrev pub column_of : LaneView → ColumnView
 column_of lane = record { decimals = lane.head.decimals; tokens = lane.waiting }
 
@@ -47,22 +46,20 @@ shortest [] = 0
 shortest (lane ∷ []) = length lane.waiting
 shortest (lane ∷ other ∷ lanes) = min (length lane.waiting) (shortest (other ∷ lanes))
 
--- a row with a token in each column
 abbrev pub IsFullRow : List HeadView → List Cell → Type 0
 IsFullRow [] [] = ⊤
 IsFullRow [] (cell ∷ cells) = ⊥
 IsFullRow (head ∷ heads) [] = ⊥
 IsFullRow (head ∷ heads) (cell ∷ cells) = (cell.decimals ≡ head.decimals) × (is_some cell.token ≡ true) × IsFullRow heads cells
 
--- the tokens of rows in a column
 abbrev pub no_cell : Cell
 no_cell = record { decimals = record { digits = 0; is_unsigned = false }; token = None }
 
 abbrev pub column_in : ℕ → List (List Cell) → List Token
 column_in place rows = flat_map (λ row. listed (get_or row place no_cell).token) rows
 
--- the column at a place took these tokens, up to the first that does not fit. Those and the ones that waited
--- before are in these rows, or wait now
+-- the column at a place took these tokens, up to the first misfit. They and those that waited before are in
+-- these rows, or wait now
 pub record WritesLane (rows : List (List Cell)) (place : ℕ) (p q : LaneView) (tokens : List Token) : Type 0 where
   pub waiting : p.waiting ++ written_of p.head.layout p.is_misfit tokens ≡ column_in place rows ++ q.waiting
   pub misfit : q.is_misfit ≡ (p.is_misfit || not (are_written p.head.layout tokens))
@@ -82,7 +79,7 @@ pub record WritesTable (p q : TableView) (tokens : ℕ → List Token) : Type 0 
   pub whole : q.has_failed ≡ false → shortest p.lanes ≡ 0 → shortest q.lanes ≡ 0
   pub held : length p.waiting ≤ 4096 → length q.waiting ≤ 4096
 
--- n rows of what waits were written, with gaps where a column has no token left
+-- n rows were written, with gaps where a column has no token left
 pub record RowsGo (p q : TableView) (n : ℕ) : Type 0 where
   pub table : q.table ≡ p.table
   pub heads : heads_of q.lanes ≡ heads_of p.lanes
@@ -100,12 +97,11 @@ pub record FlushesTable (p q : TableView) : Type 0 where
   pub emptied : q.has_failed ≡ false → q.waiting ≡ []
   pub held : length p.waiting ≤ 4096 → length q.waiting ≤ 4096
 
--- all that waits was written, with gaps where a column is shorter than another one
+-- all that waits was written, with gaps where a column is shorter
 pub record EndsTable (p q : TableView) : Type 0 where
   pub rows : RowsGo p q (longest (columns_of p.lanes))
   pub emptied : q.has_failed ≡ false → q.waiting ≡ []
 
--- these tokens for one column, and none for the others
 abbrev pub only_at : ℕ → List Token → ℕ → List Token
 only_at place tokens i = if i == place then tokens else []
 

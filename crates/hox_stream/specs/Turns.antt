@@ -23,11 +23,9 @@ pub record TakesTurn (s : FlowView) (ins after : List InletView) (n next : ℕ) 
   pub others : (j : ℕ) → (j ≡ place → ⊥) → inlet_at after j ≡ inlet_at ins j
   pub behind : next ≡ place + 1
 
--- some source took its turn, or none did
 abbrev pub PassesTurn : List InletView → List InletView → ℕ → ℕ → Type 0
 PassesTurn ins after n next = ((s : FlowView) × TakesTurn s ins after n next) ⊎ ((after ≡ ins) × (next ≡ n))
 
--- a source that needs no read is not read
 abbrev pub AreReadIfWanted : List InletView → List InletView → Type 0
 AreReadIfWanted ins after = (k : ℕ) → k < length ins → wants_more (inlet_at ins k) ≡ false → IsNotRead (inlet_at ins k) (inlet_at after k)
 

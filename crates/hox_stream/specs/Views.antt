@@ -11,8 +11,8 @@ use Rattle.kpn_tokens.specs.declared.layouts.Separator.TheVariants.{Comma}
 use Rattle.kpn_tokens.specs.declared.tables.Table.{Table}
 use Rattle.kpn_tokens.specs.declared.tables.Table.TheVariants.{Rows}
 
--- a source: its channel, layout and sort; the bytes read and not yet taken; those left to read, if known;
--- whether a read failed; whether it is at its end; and how many records and tokens were taken
+-- a source: its channel, layout and sort; the bytes read and not taken; those left to read, if known; whether
+-- a read failed; whether it is at its end; how many records and tokens were taken
 pub record InletView : Type 0 where
   pub channel : ℕ
   pub layout : Layout
@@ -29,7 +29,7 @@ abbrev pub unread : InletView → Option (List ℕ)
 unread p = prepend_known p.kept p.remaining
 
 -- a sink: its channel and layout; what is written together with what waits, if known; what waits; whether a
--- write failed; whether a token did not fit; how many tokens are written or wait, and how many were clipped
+-- write failed, or a token did not fit; how many tokens are written or wait, and how many were clipped
 pub record OutletView : Type 0 where
   pub channel : ℕ
   pub layout : Layout
@@ -46,8 +46,7 @@ pub record HeadView : Type 0 where
   pub decimals : Decimals
   pub layout : Layout
 
--- a column: its tokens that wait for their rows; whether one did not fit; how many it took, and how many were
--- clipped
+-- a column: its tokens that wait; whether one did not fit; how many it took, and how many were clipped
 pub record LaneView : Type 0 where
   pub head : HeadView
   pub waiting : List Token
@@ -55,8 +54,7 @@ pub record LaneView : Type 0 where
   pub tokens : ℕ
   pub clipped : ℕ
 
--- a table: its columns; what is written together with what waits, if known; what waits; whether a write
--- failed
+-- a table: its columns; what is written together with what waits, if known; what waits; whether a write failed
 pub record TableView : Type 0 where
   pub table : Table
   pub lanes : List LaneView

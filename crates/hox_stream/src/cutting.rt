@@ -22,8 +22,8 @@ pub enum Refusal {
     TooLong,
 }
 
-/// What some bytes begin with: a record of `used` bytes, with or without a token; a record that is rejected;
-/// or no whole record yet, and more bytes may come. Or out of memory.
+/// What some bytes begin with: a record of `used` bytes, with or without a token; a rejected record; or no
+/// whole record yet. Or out of memory.
 #[derive(Clone, Copy, Debug, PartialEq, Eq)]
 pub(crate) enum Next {
     Record { said: Option<Token>, used: usize },
@@ -39,8 +39,7 @@ pub(crate) struct Told {
     pub(crate) used: usize,
 }
 
-/// Returns the token of the first record, if that is a whole line or frame with a token. [`next_of`] reads
-/// all other records.
+/// Returns the token of the first record, if that is a whole line or frame with one; see [`next_of`] for the others.
 #[inline(always)]
 pub(crate) fn told_by(layout: &Layout, sort: Sort, bytes: &[u8]) -> Option<Told>
     ensures next { IfSome result (λ told. (last : Bool) → IsNext layout.now sort bytes.now last (Next.Record (Some told.token) told.used)) }

@@ -9,8 +9,8 @@ pub(crate) const WORDS_OUT: &str = "words written out";
 
 pub(crate) const FLAGS_OUT: &str = "flags written out";
 
-/// A family of two kinds that stop at once: one could read words, the other flags. At the outputs of a stream
-/// they replace the processes that only read a channel.
+/// A family of two kinds that stop at once, for words and flags. At the outputs of a stream they replace
+/// processes that only read a channel.
 pub struct Exits;
 
 impl Kinds for Exits {
@@ -61,7 +61,6 @@ impl Computes for Exits {
     }
 }
 
-/// Returns the ports of a reader of one channel of this sort.
 fn one_input(sort: Sort) -> Signature
     ensures { result ≡ one_input sort }
 {
@@ -71,7 +70,6 @@ fn one_input(sort: Sort) -> Signature
     }
 }
 
-/// Returns the name of the kind that could read tokens of this sort.
 pub(crate) fn exit_name(sort: Sort) -> &'static str
     ensures { result.now ≡ exit_name sort }
 {

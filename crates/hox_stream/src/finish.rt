@@ -9,22 +9,20 @@ use kpn_model::{End, Verdict};
 /// Why a stream ended. Sources and sinks are numbered from 0; sinks of several channels follow those of one.
 #[derive(Clone, Copy, Debug, PartialEq, Eq)]
 pub enum Finish {
-    /// No process can continue, and neither a token nor room would help. `Memory` if a growth got no memory.
+    /// No process can continue, and no token or room would help. `Memory` if a growth got no memory.
     Over(End),
     /// The next record of this source is rejected. All tokens before it were fed.
     Refused(usize, Refusal),
     /// A read of this source failed.
     Unread(usize),
-    /// The tokens of this source and its channel differ in sort. `serve` gives each source the sort of its
-    /// channel, and never ends so.
+    /// The sorts of this source and its channel differ. `serve` never ends so: it gives each source its
+    /// channel's sort.
     OtherSort(usize),
     /// A write to this sink failed.
     Unwritten(usize),
-    /// The next token for this sink does not fit its layout, and is not clipped. The tokens before it were
-    /// written.
+    /// The next token for this sink does not fit its layout, and is not clipped. Those before it were written.
     Misfit(usize),
-    /// More than 1,000,000 tokens of a channel of this sink wait for another channel's. The full rows were
-    /// written.
+    /// More than 1,000,000 tokens of a channel of this sink wait for another channel's. All it had was written.
     Apart(usize),
     /// A process waits for a token of an input without a source.
     Idle,
@@ -35,7 +33,7 @@ pub enum Finish {
 }
 
 impl Finish {
-    /// Returns the program's exit status, with `verdict` on the state of the network.
+    /// Returns the program's exit status. `verdict` is that on the network.
     pub fn status(self, verdict: Verdict) -> Status
         ensures { result ≡ status_of self verdict }
     {

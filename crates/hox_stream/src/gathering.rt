@@ -5,8 +5,8 @@ ghost use Rattle.hox_stream.specs.Gathering.{Gathers};
 use crate::cutting::told_by;
 use kpn_tokens::{Layout, Sort, Token};
 
-/// Reads the tokens of the first records, at most `most`, and where each record ends, up to a record that
-/// [`told_by`] leaves. Returns their number.
+/// Reads the tokens of the first records, at most `most`, and where each ends, up to one that [`told_by`]
+/// leaves. Returns their number.
 pub(crate) fn gather(
     layout: &Layout,
     sort: Sort,

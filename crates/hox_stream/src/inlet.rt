@@ -56,7 +56,7 @@ impl<S: Source> Model for Inlet<S> {
 }
 
 impl<S: Source> Inlet<S> {
-    /// Creates a source of tokens of this sort, with nothing read yet.
+    /// Creates a source with nothing read yet.
     pub(crate) fn new(
         alloc: Global,
         channel: usize,
@@ -138,8 +138,7 @@ impl<S: Source> Inlet<S> {
         next_of(alloc, self.layout, self.sort, bytes, self.is_over)
     }
 
-    /// Reads the tokens of the next records, at most `most`, and where each record ends. Returns their
-    /// number.
+    /// Reads the tokens of the next records, at most `most`, and where each ends. Returns their number.
     pub(crate) fn gather(&self, most: usize, tokens: &mut [Token], ends: &mut [usize]) -> usize
         requires tokens { most ≤ length tokens.old }
         requires ends { most ≤ length ends.old }
@@ -156,7 +155,7 @@ impl<S: Source> Inlet<S> {
         )
     }
 
-    /// Takes the next `count` records, of `used` bytes in all and with a token each.
+    /// Takes the next `count` records, of `used` bytes in all, with a token each.
     pub(crate) fn pass_all(&mut self, used: usize, count: usize)
         requires { used ≤ length self.old.kept }
         ensures { self.new ≡ record self.old { kept = drop used self.old.kept; records = u64_saturate (self.old.records + count); tokens = u64_saturate (self.old.tokens + count) } }
@@ -166,7 +165,6 @@ impl<S: Source> Inlet<S> {
         self.tokens = self.tokens.saturating_add(count as u64);
     }
 
-    /// Takes the next record, of `used` bytes.
     pub(crate) fn pass(&mut self, used: usize, said: Option<Token>)
         requires { used ≤ length self.old.kept }
         ensures { self.new ≡ record self.old { kept = drop used self.old.kept; records = u64_saturate (self.old.records + 1); tokens = u64_saturate (self.old.tokens + length (listed said)) } }
@@ -183,8 +181,7 @@ impl<S: Source> Inlet<S> {
         !self.is_over && record_in(self.layout, &self.held[self.next..], false).is_none()
     }
 
-    /// Reads another piece, unless more bytes are held than a record may have. If it fails, it keeps what was
-    /// read before.
+    /// Reads another piece, unless more bytes are held than a record may have. An error loses nothing that is held.
     pub(crate) fn refill(&mut self, alloc: Global) -> Result<(), ReadFault>
         ensures reads { ReadsOn self.old self.new }
         ensures read { self.old.is_over ≡ false → IfOk result (λ _. IsRead self.old self.new ⊎ (4096 < length self.new.kept)) }
@@ -218,7 +215,6 @@ fn count_of(said: Option<Token>) -> u64
     }
 }
 
-/// Copies the bytes, with room for another piece.
 fn with_room(alloc: Global, bytes: &[u8]) -> Result<Vec<u8>, AllocError>
     requires { length bytes.now ≤ 4096 }
     ensures items { IfOk result (λ v. v.items ≡ bytes.now) }
@@ -229,7 +225,6 @@ fn with_room(alloc: Global, bytes: &[u8]) -> Result<Vec<u8>, AllocError>
     Ok(held)
 }
 
-/// Appends bytes for which there is room.
 fn append(held: &mut Vec<u8>, bytes: &[u8])
     requires { vec_len held.old + length bytes.now ≤ vec_capacity held.old }
     ensures { held.new.items ≡ held.old.items ++ bytes.now }
@@ -239,7 +234,6 @@ fn append(held: &mut Vec<u8>, bytes: &[u8])
     }
 }
 
-/// Returns whether the next record of any source needs another read.
 pub(crate) fn wants_more<S: Source>(inlets: &[Inlet<S>]) -> bool
     ensures { result ≡ list_any wants_more inlets.now }
 {

@@ -31,7 +31,6 @@ impl Model for Lane {
 }
 
 impl Lane {
-    /// Creates a column without tokens.
     pub(crate) fn new(alloc: Global, table: Table, channel: usize, decimals: Decimals) -> Lane
         ensures { result ≡ new_lane table channel decimals }
     {
@@ -52,37 +51,31 @@ impl Lane {
         self.channel
     }
 
-    /// Returns the number of tokens taken, at most `u64::MAX`.
     pub(crate) fn tokens(&self) -> u64
         ensures { result ≡ self.now.tokens }
     {
         self.tokens
     }
 
-    /// Returns how many of the tokens are clipped to the nearest value that fits, at most `u64::MAX`.
     pub(crate) fn clipped(&self) -> u64
         ensures { result ≡ self.now.clipped }
     {
         self.clipped
     }
 
-    /// Returns how many tokens wait for their rows.
     pub(crate) fn waiting(&self) -> usize
         ensures { result ≡ length self.now.waiting }
     {
         self.waiting.len()
     }
 
-    /// Returns whether a token did not fit.
     pub(crate) fn is_misfit(&self) -> bool
         ensures { result ≡ self.now.is_misfit }
     {
         self.is_misfit
     }
 
-    /// Queues tokens for their rows, up to the first that does not fit; none if one did not fit before.
-    ///
-    /// Errors: out of memory. Some of the tokens may be queued.
+    /// Queues tokens for their rows, up to the first that does not fit. Errors: out of memory; some may be queued.
     pub(crate) fn take(&mut self, tokens: &[Token]) -> Result<(), AllocError>
         ensures takes { OnOk result (TakesIn self.old self.new tokens.now) }
         ensures head { self.new.head ≡ self.old.head }
@@ -98,7 +91,7 @@ impl Lane {
         Ok(())
     }
 
-    /// Takes the first queued token, if there is one, as a cell of its row.
+    /// Takes the first queued token, if any, as a cell of its row.
     pub(crate) fn pop(&mut self) -> Cell
         ensures cell { result ≡ first_cell (column_of self.old) }
         ensures left { self.new ≡ under self.old }
@@ -110,8 +103,8 @@ impl Lane {
     }
 }
 
-/// How many tokens come before the first that does not fit and is not clipped, how many of them are clipped,
-/// and whether there is such a misfit.
+/// How many tokens precede the first that does not fit and is not clipped, how many of them are clipped, and
+/// whether there is such a misfit.
 #[derive(Clone, Copy, Debug, PartialEq, Eq)]
 struct Fitting {
     tokens: usize,

@@ -12,10 +12,8 @@ use kpn_model::{Kinds, Listed, Text};
 use kpn_net::{ChannelSketch, Check, Net, NetFault, ProcessSketch, Sketch};
 use std::alloc::{AllocError, Global};
 
-/// Makes the network of a sketch for a stream: each process that only reads a channel of one of these names
-/// gets a kind of [`Exits`], so that the channel may be an output of a flow.
-///
-/// Errors: the fault of the changed sketch, or `Memory`.
+/// Makes the network of a sketch in which each process that only reads a channel of one of these names is one of
+/// [`Exits`], so that the channel may be an output of a flow. Errors: the fault of that sketch, or `Memory`.
 pub(crate) fn net_with_exits<K: Kinds>(
     alloc: Global,
     sketch: Sketch,
@@ -88,7 +86,6 @@ fn exited(
     })
 }
 
-/// Returns whether processes of a kind only read one channel.
 fn is_reader(kind: &str) -> bool
     ensures { result ≡ is_reader kind.now }
 {
@@ -101,7 +98,6 @@ fn is_one_of(names: &[Text], name: &str) -> bool
     names.iter().any(|other| other.as_str() == name)
 }
 
-/// Returns the channel with one of these names that leads to `process`.
 fn channel_to<'a>(
     channels: &'a [ChannelSketch],
     names: &[Text],

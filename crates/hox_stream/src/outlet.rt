@@ -17,8 +17,8 @@ const PIECE: usize = 4096;
 /// The room at first, in bytes: those that wait, and the records of one batch of tokens.
 const ROOM: usize = 8192;
 
-/// Why tokens were not written: a write failed, and may have written some bytes; a token does not fit the
-/// layout, and those before it are written or wait; or out of memory.
+/// Why tokens were not written: a write failed, after some bytes or none; a token does not fit the layout,
+/// and those before it are written or wait; or out of memory.
 #[derive(Clone, Copy, Debug, PartialEq, Eq)]
 pub(crate) enum WriteFault {
     Failed,
@@ -27,7 +27,6 @@ pub(crate) enum WriteFault {
 }
 
 /// A sink for the tokens of a channel. Records wait until they have more than 4,096 bytes, or are flushed.
-///
 /// Contracts see the layout, and what is written together with what waits.
 #[derive(Drop)]
 pub struct Outlet<S: Sink> {
@@ -57,9 +56,7 @@ impl<S: Sink> Model for Outlet<S> {
 }
 
 impl<S: Sink + Drop> Outlet<S> {
-    /// Creates a sink, with room for the records that wait. Nothing is written yet.
-    ///
-    /// Errors: out of memory.
+    /// Creates a sink with nothing written yet. Errors: out of memory.
     pub(crate) fn new(
         alloc: Global,
         channel: usize,
@@ -91,15 +88,16 @@ impl<S: Sink> Outlet<S> {
         self.channel
     }
 
-    /// Returns the number of tokens that are written or wait, at most `u64::MAX`. After a failed write, only
-    /// those written before it count.
+    /// Returns how many tokens are written or wait, at most `u64::MAX`; after a failed write, only those
+    /// written before.
     pub fn tokens(&self) -> u64
         ensures { result ≡ self.now.tokens }
     {
         self.tokens
     }
 
-    /// Returns how many tokens were clipped to the nearest value that fits, at most `u64::MAX`.
+    /// Returns how many tokens were clipped to the nearest value that fits, at most `u64::MAX`. After a
+    /// failed write, some of them may be lost.
     pub fn clipped(&self) -> u64
         ensures { result ≡ self.now.clipped }
     {
@@ -137,7 +135,7 @@ impl<S: Sink> Outlet<S> {
     }
 
     /// Appends the records of tokens to what waits, and writes that if it has more than 4,096 bytes. If it
-    /// fails, some may have been written; after that, it takes no more tokens.
+    /// fails, some may have been written, and it takes no more tokens.
     pub(crate) fn write(&mut self, tokens: &[Token]) -> Result<(), WriteFault>
         ensures writes { Writes self.old self.new tokens.now }
         ensures fault { IfErr result (IsWriteFault self.new) }
@@ -165,7 +163,6 @@ impl<S: Sink> Outlet<S> {
         self.end_of_write()
     }
 
-    /// Returns the result of a write that has not failed.
     fn end_of_write(&self) -> Result<(), WriteFault>
         ensures { IfErr result (IsWriteFault self.now) }
     {
@@ -193,7 +190,6 @@ impl<S: Sink> Outlet<S> {
         Ok(())
     }
 
-    /// Records that a write failed, and returns why.
     fn fail(&mut self, fault: WriteFault) -> Result<(), WriteFault>
         ensures failed { self.new ≡ record self.old { has_failed = true; tokens = self.new.tokens } }
         ensures fault { result ≡ Err fault }
@@ -204,7 +200,7 @@ impl<S: Sink> Outlet<S> {
     }
 }
 
-/// How many tokens have their records, how many of these are clipped, and whether the next one does not fit.
+/// How many tokens have their records, how many of these are clipped, and whether the next one is a misfit.
 #[derive(Clone, Copy, Debug, PartialEq, Eq)]
 struct Appended {
     written: usize,
@@ -212,9 +208,7 @@ struct Appended {
     is_misfit: bool,
 }
 
-/// Appends the records of tokens, up to the first that does not fit.
-///
-/// Errors: out of memory.
+/// Appends the records of tokens, up to the first misfit. Errors: out of memory.
 fn append_to(
     waiting: &mut Vec<u8>,
     layout: Layout,

@@ -26,8 +26,7 @@ use kpn_model::{Kinds, Token};
 use kpn_net::Net;
 use std::alloc::Global;
 
-/// Feeds the token of a record, if there is room. Returns whether it did, which a record without a token
-/// always does.
+/// Feeds the token of a record, if it has one. Returns false if there is no room.
 fn feed_said<B: Body>(flow: &mut Flow<B>, channel: usize, said: Option<Token>) -> bool
     ensures same { IsSameFlow flow.old flow.new }
     ensures flows { IsTrue result → Flows (family B.Kinds.Kinds) flow.old.network flow.old.state (map (λ token. Fed channel token) (listed said)) flow.new.state }
@@ -60,8 +59,8 @@ fn take_said<B: Body, S: Source>(
     true
 }
 
-/// Takes the next record and feeds its token, if there are room and a record. Returns whether it did. Without
-/// room it reads no record.
+/// Takes the next record and feeds its token. Returns false if there is no room, before it reads a record, or
+/// no record.
 fn take_record<B: Body, S: Source>(alloc: Global, flow: &mut Flow<B>, inlet: &mut Inlet<S>) -> bool
     ensures pours { Pours (family B.Kinds.Kinds) flow.old flow.new inlet.old inlet.new }
     ensures unread { IsNotRead inlet.old inlet.new }
@@ -75,7 +74,6 @@ fn take_record<B: Body, S: Source>(alloc: Global, flow: &mut Flow<B>, inlet: &mu
     take_said(flow, inlet, said, used)
 }
 
-/// Takes the next record, which is `said` and `used`, and then more, while there are room and records.
 fn take_records<B: Body, S: Source>(
     alloc: Global,
     flow: &mut Flow<B>,
@@ -109,8 +107,7 @@ fn take_more<B: Body, S: Source>(alloc: Global, flow: &mut Flow<B>, inlet: &mut 
     }
 }
 
-/// Takes the next records: at most `most` if they have a token each, else one. Returns how many it took; none
-/// without room or record.
+/// Takes the next records: at most `most` if they have a token each, else one. Returns how many it took.
 fn take_some<B: Body, S: Source>(
     alloc: Global,
     flow: &mut Flow<B>,
@@ -142,8 +139,7 @@ fn capacity_of<K: Kinds>(net: &Net<K>, channel: usize) -> usize {
 /// How many tokens are fed at once at most.
 const BATCH: usize = 64;
 
-/// Takes the next records that have a token each, at most `most`, while there is room for their tokens.
-/// Returns how many it took.
+/// Takes the next records that have a token each, at most `most`, while there is room. Returns how many it took.
 fn take_batch<B: Body, S: Source>(flow: &mut Flow<B>, inlet: &mut Inlet<S>, most: usize) -> usize
     ensures pours { Pours (family B.Kinds.Kinds) flow.old flow.new inlet.old inlet.new }
     ensures unread { IsNotRead inlet.old inlet.new }
@@ -260,7 +256,6 @@ fn pour_at<B: Body, S: Source>(
     }
 }
 
-/// Returns whether a process waits for a token of this source.
 fn is_waited_for<B: Body, S: Source>(flow: &Flow<B>, inlet: &Inlet<S>) -> bool
     ensures { result ≡ is_waited_for flow.now inlet.now }
 {
@@ -268,7 +263,6 @@ fn is_waited_for<B: Body, S: Source>(flow: &Flow<B>, inlet: &Inlet<S>) -> bool
     flow.is_input(channel) && flow.is_starved(channel)
 }
 
-/// Returns the first source from `from` on that a process waits for.
 fn first_starved<B: Body, S: Source>(
     flow: &Flow<B>,
     inlets: &[Inlet<S>],
@@ -303,7 +297,7 @@ fn next_starved<B: Body, S: Source>(
     }
 }
 
-/// Pours the next source that a process waits for, in turn. Returns why the stream ends, if it does.
+/// Pours the next source that a process waits for. Returns why the stream ends, if it does.
 pub(crate) fn pour_next<B: Body, S: Source>(
     alloc: Global,
     flow: &mut Flow<B>,

@@ -41,9 +41,8 @@ pub(crate) fn longest(lanes: &[Lane]) -> usize
     count
 }
 
-/// Appends the next row: the first waiting token of each column.
-///
-/// Errors: out of memory. Some tokens of the row may be lost.
+/// Appends the next row: the first waiting token of each column. Errors: out of memory. Some tokens of the
+/// row may be lost.
 pub(crate) fn append_next(
     lanes: &mut [Lane],
     row: &mut Vec<Cell>,
@@ -58,7 +57,6 @@ pub(crate) fn append_next(
     append_row(waiting, table, row.as_slice())
 }
 
-/// Takes the first waiting token of each column into `row`.
 fn next_row(lanes: &mut [Lane], row: &mut Vec<Cell>) -> Result<(), AllocError>
     ensures row { OnOk result (row.new.items ≡ map first_cell (columns_of lanes.old)) }
     ensures lanes { OnOk result (lanes.new ≡ map under lanes.old) }

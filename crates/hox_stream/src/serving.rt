@@ -28,8 +28,7 @@ pub struct LaidOut<S> {
     pub layout: Layout,
 }
 
-/// A sink for several channels: their arrangement, and the format of each column's words (ignored where rows
-/// are samples).
+/// A sink for several channels: their arrangement, and how each column's words are written (ignored for samples).
 #[derive(Drop)]
 pub struct LaidTable<S> {
     pub stream: S,
@@ -48,10 +47,9 @@ pub struct Served<F: Computes, I: Source, O: Sink> {
 }
 
 /// Runs a stream until it ends. The sources belong to the channels that are fed, in order; the sinks, and
-/// then the columns of the tables, to those that are drained. Sources and sinks without a channel are
-/// dropped. It reads a source only when a process waits for its tokens, and first writes all output. In a
-/// table a token waits until its row has one in each column. At the end it writes the remaining rows, with
-/// gaps where a column is shorter.
+/// then the columns of the tables, to those that are drained. Superfluous ones are dropped. A source is read
+/// only when a process waits for its tokens, after all output is written. In a table a token waits until its
+/// row has one in each column; at the end the remaining rows are written, with gaps.
 ///
 /// The tokens fed into a channel are those of the records read from its source. The tokens drained from a
 /// channel are written to its sink, each as a record, or to its column, up to one that does not fit the
@@ -134,7 +132,6 @@ fn inlets_of<K: Kinds, S: Source + Drop>(
     Ok(inlets)
 }
 
-/// Creates a source whose tokens have the sort of its channel.
 fn inlet_for<K: Kinds, S: Source>(
     alloc: Global,
     net: &Net<K>,

@@ -31,8 +31,8 @@ pub(crate) enum Way {
 pub enum NameFault {
     /// No channel has the name.
     NoChannel(usize),
-    /// The process at the outer end of the channel does more than stop: the writer of a channel to be fed,
-    /// the reader of one to be drained. Its name follows.
+    /// The process at the outer end of the channel does more than stop: the writer of one to be fed, the
+    /// reader of one to be drained. Its name follows.
     Busy(usize, Text),
     /// Out of memory.
     Memory,
@@ -53,8 +53,7 @@ pub enum StreamFault {
     Memory,
 }
 
-/// A stream at its start: a flow, and its channels that are fed and drained, in order. Contracts see the
-/// flow.
+/// A stream at its start: a flow, and its channels that are fed and drained. Contracts see the flow.
 #[derive(Drop)]
 pub struct OpenStream<F: Computes> {
     pub(crate) flow: Flow<CardBody<F>>,
@@ -75,8 +74,7 @@ impl<F: Computes> Model for OpenStream<F> {
 }
 
 impl<F: Computes> OpenStream<F> {
-    /// Returns the flow, and the numbers of the channels that are fed and of those that are drained, in order
-    /// of names.
+    /// Returns the flow, and the numbers of the channels that are fed and that are drained, in order of names.
     pub fn into_parts(self) -> (Flow<CardBody<F>>, Vec<usize>, Vec<usize>)
         ensures flow { result.0 ≡ self }
         ensures inputs { result.1.items ≡ self.inputs }
@@ -91,11 +89,11 @@ impl<F: Computes> OpenStream<F> {
     }
 }
 
-/// Opens a stream of the network of a sketch, at its start, which feeds and drains the channels of these
-/// names. Each process that only reads a drained channel stops at once, as [`Exits`] do.
+/// Opens a stream of a sketch's network, at its start, which feeds and drains the channels of these names.
+/// Processes that only read a drained channel stop at once, as [`Exits`] do.
 ///
 /// Errors: the fault of the sketch so changed; the first name whose channel can't be fed, then the first
-/// whose channel can't be drained; a channel that is named twice; or out of memory.
+/// whose channel can't be drained; a channel named twice; or out of memory.
 pub fn open_stream<K: Computes>(
     alloc: Global,
     sketch: Sketch,
@@ -218,7 +216,6 @@ fn channels_at<B: Body>(
     Ok(channels)
 }
 
-/// Returns the channel of name `k`, if it may be fed or drained.
 fn channel_at<B: Body>(
     alloc: Global,
     net: &Net<B::Kinds>,

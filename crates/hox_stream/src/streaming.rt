@@ -18,8 +18,7 @@ use std::alloc::Global;
 /// How many entries a turn makes at most before it writes the output.
 const STRETCH: u64 = 1000000;
 
-/// Runs a flow between sources and sinks until it ends, writes the rest, and returns why it ended (see
-/// [`crate::serve`]).
+/// Runs a flow until it ends, writes the rest, and returns why it ended (see [`crate::serve`]).
 pub(crate) fn stream_out<B: Body, I: Source, O: Sink>(
     alloc: Global,
     flow: &mut Flow<B>,
@@ -35,7 +34,6 @@ pub(crate) fn stream_out<B: Body, I: Source, O: Sink>(
     }
 }
 
-/// Runs a stream until it ends, without writing rows that are not full.
 fn stream<B: Body, I: Source, O: Sink>(
     alloc: Global,
     flow: &mut Flow<B>,
@@ -73,7 +71,7 @@ fn turn_on<B: Body, I: Source, O: Sink>(
     Finish::Cut
 }
 
-/// Runs the flow as far as it can, and writes the output. If there is none, reads a source that a process
+/// Advances the flow as far as it can, and writes its output. If there is none, reads a source that a process
 /// waits for, from source `next` on. Returns why the stream ends, if it does.
 fn turn<B: Body, I: Source, O: Sink>(
     alloc: Global,
@@ -100,8 +98,8 @@ fn turn<B: Body, I: Source, O: Sink>(
     }
 }
 
-/// Reads a source that a process waits for, from source `next` on. First writes all output if a source may
-/// need another read. Returns why the stream ends, if it does.
+/// Reads a source that a process waits for, from source `next` on, after it has written all output if a
+/// source may need a read. Returns why the stream ends, if it does.
 fn pour<B: Body, I: Source, O: Sink>(
     alloc: Global,
     flow: &mut Flow<B>,

@@ -21,8 +21,8 @@ const ROOM: usize = 8192;
 /// How many tokens of a channel may wait for those of another one.
 pub const MOST_AHEAD: usize = 1000000;
 
-/// Why tokens were not written to a table: a write failed, and may have written some bytes; a token does not
-/// fit; more than [`MOST_AHEAD`] tokens of a channel wait for another channel's; or out of memory.
+/// Why tokens were not written to a table: a write failed, after some bytes or none; a token does not fit;
+/// more than [`MOST_AHEAD`] tokens of a channel wait for another channel's; or out of memory.
 #[derive(Clone, Copy, Debug, PartialEq, Eq)]
 pub(crate) enum TableFault {
     Failed,
@@ -32,9 +32,8 @@ pub(crate) enum TableFault {
 }
 
 /// A sink for the tokens of several channels, side by side in rows. A token waits until its row has one of
-/// each channel. Rows wait until they have more than 4,096 bytes, or are flushed.
-///
-/// Contracts see the columns, and what is written together with what waits.
+/// each channel. Rows wait until they have more than 4,096 bytes, or are flushed. Contracts see the columns,
+/// and what is written together with what waits.
 #[derive(Drop)]
 pub struct TableOutlet<S: Sink> {
     table: Table,
@@ -60,9 +59,7 @@ impl<S: Sink> Model for TableOutlet<S> {
 }
 
 impl<S: Sink + Drop> TableOutlet<S> {
-    /// Creates a sink with these columns, and room for the rows that wait. Nothing is written yet.
-    ///
-    /// Errors: out of memory.
+    /// Creates a sink with nothing written yet. Errors: out of memory.
     pub(crate) fn new(
         alloc: Global,
         table: Table,
@@ -100,8 +97,7 @@ impl<S: Sink> TableOutlet<S> {
         self.lanes[place].channel()
     }
 
-    /// Returns how many tokens a column has taken, at most `u64::MAX`: they are written or wait. After a
-    /// failed write, some of them may be lost.
+    /// Returns how many tokens a column took, at most `u64::MAX`. After a failed write, some may be lost.
     pub fn tokens(&self, place: usize) -> u64
         requires { place < length self.now.lanes }
         ensures { result ≡ (lane_at self.now place).tokens }
@@ -109,7 +105,7 @@ impl<S: Sink> TableOutlet<S> {
         self.lanes[place].tokens()
     }
 
-    /// Returns how many tokens of a column are clipped to the nearest value that fits, at most `u64::MAX`.
+    /// Returns how many tokens of a column were clipped to the nearest value that fits, at most `u64::MAX`.
     pub fn clipped(&self, place: usize) -> u64
         requires { place < length self.now.lanes }
         ensures { result ≡ (lane_at self.now place).clipped }
@@ -155,8 +151,8 @@ impl<S: Sink> TableOutlet<S> {
         sink
     }
 
-    /// Takes tokens into a column, appends the rows that are now full to what waits, and writes that if it
-    /// has more than 4,096 bytes. Once a write has failed, it takes no more tokens.
+    /// Takes tokens into a column, and appends the rows that become full. Writes what waits if it has more
+    /// than 4,096 bytes. After a failed write, it takes no tokens.
     pub(crate) fn write(&mut self, place: usize, tokens: &[Token]) -> Result<(), TableFault>
         requires { place < length self.old.lanes }
         ensures writes { WritesTable self.old self.new (only_at place tokens.now) }
@@ -173,7 +169,6 @@ impl<S: Sink> TableOutlet<S> {
         self.end_of_write(place)
     }
 
-    /// Returns the result of a write that has not failed.
     fn end_of_write(&self, place: usize) -> Result<(), TableFault>
         requires { place < length self.now.lanes }
         ensures { IfErr result (IsTableFault self.now) }
@@ -204,8 +199,8 @@ impl<S: Sink> TableOutlet<S> {
         self.lanes[place].take(tokens)
     }
 
-    /// Appends `count` rows to what waits, with gaps where a column has no token left; writes what waits when
-    /// it has more than 4,096 bytes.
+    /// Appends `count` rows, with gaps where a column has no token left. Writes what waits if it has more
+    /// than 4,096 bytes.
     fn write_rows(&mut self, count: usize) -> Result<(), TableFault>
         ensures rows { RowsGo self.old self.new count }
         ensures failed { IfErr result (λ _. self.new.has_failed ≡ true) }
@@ -259,8 +254,7 @@ impl<S: Sink> TableOutlet<S> {
         Ok(())
     }
 
-    /// Writes all that waits, with gaps where a column is shorter than another one. If it fails, some bytes
-    /// may have been written.
+    /// Writes all that waits, with gaps where a column is shorter. If it fails, some bytes may have been written.
     pub(crate) fn end(&mut self) -> Result<(), TableFault>
         ensures ends { EndsTable self.old self.new }
         ensures failed { IfErr result (λ _. self.new.has_failed ≡ true) }
@@ -270,7 +264,6 @@ impl<S: Sink> TableOutlet<S> {
         self.flush()
     }
 
-    /// Records that a write failed, and returns why.
     fn fail(&mut self, fault: TableFault) -> Result<(), TableFault>
         ensures failed { self.new ≡ record self.old { has_failed = true } }
         ensures fault { result ≡ Err fault }

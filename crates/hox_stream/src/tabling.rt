@@ -15,7 +15,6 @@ use kpn_flow::Flow;
 use kpn_front::Sink;
 use kpn_model::Token;
 
-/// Moves the first tokens of a column's channel to it. Returns whether there were any.
 fn tell_lane<B: Body, S: Sink>(
     flow: &mut Flow<B>,
     table: &mut TableOutlet<S>,
@@ -42,8 +41,7 @@ fn tell_lane<B: Body, S: Sink>(
     }
 }
 
-/// Moves tokens to column `place` of table `k`, if it has one. If that fails, returns why the stream ends;
-/// the tables follow `first` sinks.
+/// Moves tokens to column `place` of table `k`, if it has one. The tables follow `first` sinks.
 fn tell_lane_at<B: Body, S: Sink>(
     flow: &mut Flow<B>,
     tables: &mut [TableOutlet<S>],
@@ -103,7 +101,6 @@ fn tell_table<B: Body, S: Sink>(
     Ok(has_moved)
 }
 
-/// Moves tokens to all tables. Returns whether it moved any.
 pub(crate) fn tell_tables<B: Body, S: Sink>(
     flow: &mut Flow<B>,
     tables: &mut [TableOutlet<S>],
@@ -124,8 +121,7 @@ pub(crate) fn tell_tables<B: Body, S: Sink>(
     Ok(has_moved)
 }
 
-/// Writes the full rows that wait, for each table, even if another one fails. If one fails, returns why the
-/// stream ends.
+/// Writes the full rows of each table, even if another one fails. Returns why the stream ends if one fails.
 pub(crate) fn flush_tables<S: Sink>(
     tables: &mut [TableOutlet<S>],
     first: usize,
@@ -147,8 +143,7 @@ pub(crate) fn flush_tables<S: Sink>(
     }
 }
 
-/// Writes all that waits, for each table, even if another one fails. If one fails, returns why the stream
-/// ends.
+/// Writes all that waits, for each table, even if another one fails. Returns why the stream ends if one fails.
 pub(crate) fn end_tables<S: Sink>(tables: &mut [TableOutlet<S>], first: usize) -> Result<(), Finish>
     ensures ends { AllEnd tables.old tables.new }
     ensures finish { IfErr result (λ f. (kinds : Family) (s : FlowView) (ins : List InletView) (sinks : List OutletView) → length sinks ≡ first → IsFinish kinds s ins (outs sinks tables.new) f) }

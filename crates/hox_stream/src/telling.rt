@@ -80,7 +80,7 @@ fn tell_sinks<B: Body, S: Sink>(
     Ok(has_moved)
 }
 
-/// Writes what waits, for each sink, even if another one fails. If one fails, returns why the stream ends.
+/// Writes what waits, for each sink, even if another one fails. Returns why the stream ends if one fails.
 fn flush_sinks<S: Sink>(outlets: &mut [Outlet<S>]) -> Result<(), Finish>
     ensures streams { (kinds : Family) (s : FlowView) (ins : List InletView) (tables : List TableView) → Streams kinds s s ins ins (outs outlets.old tables) (outs outlets.new tables) }
     ensures written { (k : ℕ) → k < length outlets.new → (outlet_at outlets.new k).has_failed ≡ false → (outlet_at outlets.new k).waiting ≡ [] }
@@ -115,8 +115,7 @@ impl<S: Sink> Model for Outs<S> {
 }
 
 impl<S: Sink> Outs<S> {
-    /// Moves the first tokens of each channel to its sink. Returns whether it moved any, or why the stream
-    /// ends.
+    /// Moves the first tokens of each channel to its sink. Returns whether it moved any, or why the stream ends.
     pub(crate) fn tell_all<B: Body>(&mut self, flow: &mut Flow<B>) -> Result<bool, Finish>
         ensures streams { (ins : List InletView) → Streams (family B.Kinds.Kinds) flow.old flow.new ins ins self.old self.new }
         ensures same { IsSameFlow flow.old flow.new }
@@ -135,8 +134,8 @@ impl<S: Sink> Outs<S> {
         Ok(moved || moved_more)
     }
 
-    /// Writes what waits, for each sink, even if another one fails, but no row that is not full. If one
-    /// fails, returns why the stream ends.
+    /// Writes what waits and the full rows, for each sink, even if another one fails. Returns why the stream
+    /// ends if one fails.
     pub(crate) fn flush_all(&mut self) -> Result<(), Finish>
         ensures streams { (kinds : Family) (s : FlowView) (ins : List InletView) → Streams kinds s s ins ins self.old self.new }
         ensures written { AreWritten self.new }
@@ -151,8 +150,8 @@ impl<S: Sink> Outs<S> {
         }
         tables
     }
-    /// Writes all that waits in tables, with gaps where a column is shorter. Leaves the sinks for one channel
-    /// alone. If a write fails, returns why the stream ends.
+    /// Writes all that waits in tables, with gaps where a column is shorter, but nothing to sinks of one
+    /// channel. Returns why the stream ends if a write fails.
     pub(crate) fn end(&mut self) -> Result<(), Finish>
         ensures sinks { self.new.sinks ≡ self.old.sinks }
         ensures ends { AllEnd self.old.tables self.new.tables }

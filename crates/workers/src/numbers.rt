@@ -1,5 +1,4 @@
-//! Work for bodies: random numbers. Loops of pauses measure little: on a virtual machine they slow each other
-//! down.
+//! Work for bodies: random numbers. Loops of pauses measure little: on a virtual machine they slow each other down.
 
 /// Returns the next random number (Marsaglia's xorshift).
 pub fn following(number: u64) -> u64 {
@@ -8,8 +7,7 @@ pub fn following(number: u64) -> u64 {
     second ^ (second << 17)
 }
 
-/// Computes random numbers, each from the one before it. Returns the last, so that the compiler leaves none
-/// out.
+/// Computes random numbers, each from the one before it. Returns the last, so that the compiler leaves none out.
 pub fn burn(numbers: u64) -> u64 {
     let mut number: u64 = 1;
     for _ in 0..numbers {
