@@ -15,7 +15,6 @@ use Rattle.kpn_standard.specs.Table.{one_flag}
 abbrev pub number_named : List ℕ → Option (ℕ × ℕ)
 number_named name = if bytes_eq name (codes "flip") then Some (0, 0) else None
 
--- the one card
 abbrev pub flip : Card
 flip = record { kind = 0; args = 0 ∷ 0 ∷ 0 ∷ [] }
 
@@ -31,7 +30,6 @@ before_read = 0 ∷ 0 ∷ 0 ∷ 0 ∷ []
 abbrev pub after_read : List ℕ
 after_read = 1 ∷ 0 ∷ 0 ∷ 0 ∷ []
 
--- the lines of the table: the local state, by the token just read
 abbrev pub FlipLine : List ℕ → Option Token → Type 0
 FlipLine local None = local ≡ before_read
 FlipLine local (Some (Flag f)) = local ≡ after_read

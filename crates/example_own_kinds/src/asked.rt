@@ -12,7 +12,7 @@ pub fn answer_of<B: Body>(body: B, local: Local, last: Option<Token>) -> Answer
     Task::new(0, body, local, last).call().answer()
 }
 
-/// Returns a body's answer at the start of its process.
+/// Returns a body's first answer.
 pub fn first_answer<B: Body>(body: B) -> Answer
     ensures { result ≡ B.Kinds.answer_of (B.card body) (B.Kinds.start (B.card body)) None }
 {

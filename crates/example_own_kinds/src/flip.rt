@@ -102,9 +102,7 @@ impl Body for FlipBody {
     }
 }
 
-/// Returns the answer of a flip before a read, or after it has read a flag.
-///
-/// Errors: out of memory.
+/// Returns the answer of a flip before a read, or after it has read a flag. Errors: out of memory.
 pub fn flip_answer(alloc: Global, read: Option<bool>) -> Result<Answer, AllocError>
     ensures { IfOk result (λ a. a ≡ answer (option_map Token.Flag read)) }
 {

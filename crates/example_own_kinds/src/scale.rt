@@ -9,13 +9,11 @@ use kpn_body::{Call, StandardBody};
 use kpn_net::{Act, Answer, Card, Local, Token};
 use std::alloc::{AllocError, Global};
 
-/// The number of the standard kind `scale`, which writes each word times a factor.
+/// The number of the standard kind `scale`.
 const SCALE: u16 = 6;
 
 /// Returns the answer of a scale by `factor` after it has read a word: it writes the product modulo 2^64, and
-/// returns to its first local state.
-///
-/// Errors: out of memory.
+/// returns to its first local state. Errors: out of memory.
 pub fn scale_answer(alloc: Global, factor: u64, word: u64) -> Result<Answer, AllocError>
     ensures { IfOk result (λ a. a ≡ says 0 0 0 (Act.Write 0 (Token.Word ((factor * word) % 2 ^ 64)))) }
 {

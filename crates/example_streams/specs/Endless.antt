@@ -18,6 +18,5 @@ for_ever v (suc zero) n = Some (Word v)
 for_ever v (suc (suc zero)) n = Some (Word v)
 for_ever v (suc (suc (suc c))) n = None
 
--- the least solution is endless
 abbrev pub EndlessLoop : Type 0
 EndlessLoop = (v k : ℕ) → IsLeastSolution standard (endless v k) (for_ever v)

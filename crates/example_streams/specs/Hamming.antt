@@ -33,7 +33,6 @@ pub record AreHamming (ts : List Token) (n : ℕ) : Type 0 where
   pub first : AreFirstHamming values
   pub so_many : length values ≡ n
 
--- the gate lets n numbers through, and the sink takes k. Channel 0 leads to the gate, channel 2 to the sink
 abbrev pub hamming : ℕ → ℕ → Network
 hamming n k =
     network

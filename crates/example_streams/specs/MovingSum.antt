@@ -8,7 +8,7 @@ use Rattle.kpn_streams.specs.Solving.{HasStreams}
 use Rattle.test_laws.specs.Building.{count, sink, copy, add, words, holding, numbers, network}
 use Rattle.example_streams.specs.Arriving.{arriving, on_channels}
 
--- the source counts n numbers from `from` on, after the numbers xs, and the sink takes k
+-- the source counts n numbers from `from` on, after xs, and the sink takes k
 abbrev pub moving_sum : List ℕ → ℕ → ℕ → ℕ → Network
 moving_sum xs from n k =
     network (count from n ∷ copy ∷ add ∷ sink k ∷ [])

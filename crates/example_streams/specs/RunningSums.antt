@@ -8,13 +8,12 @@ use Rattle.kpn_streams.specs.Solving.{HasStreams}
 use Rattle.test_laws.specs.Building.{count, sink, copy, add, words, holding, numbers, network}
 use Rattle.example_streams.specs.Arriving.{arriving, on_channels}
 
--- the source counts n numbers from `from` on, after the numbers xs, and the sink takes k
+-- the source counts n numbers from `from` on, after xs, and the sink takes k
 abbrev pub running_sums : List ℕ → ℕ → ℕ → ℕ → Network
 running_sums xs from n k =
     network (count from n ∷ add ∷ copy ∷ sink k ∷ [])
     (holding (numbers xs) (words (0, 0) (1, 0) 1) ∷ holding (numbers (0 ∷ [])) (words (2, 0) (1, 1) 1) ∷ words (1, 0) (2, 0) 1 ∷ words (2, 1) (3, 0) 1 ∷ [])
 
--- the sums so far of s and these numbers, modulo 2^64
 abbrev pub sums_so_far : ℕ → List ℕ → List ℕ
 sums_so_far s [] = []
 sums_so_far s (x ∷ xs) = (s + x) % 2 ^ 64 ∷ sums_so_far (s + x) xs

@@ -67,7 +67,6 @@ module _ (kinds : Family) (named : List ℕ → Option (ℕ × ℕ)) (signature 
       pub chosen : IsHoxChoice words choice
       pub does : Does choice outcome
 
--- why a choice is not carried out
 module _ (named : List ℕ → Option (ℕ × ℕ)) (signature : Card → Option Signature) (contents : List ℕ → Option (List ℕ)) (clash : List ℕ → Bool → List ℕ → Bool → Option Bool) where
   abbrev pub IsRunStop : RunChoice → Stop → Type 0
   IsRunStop run stop = IsStop named signature contents clash (want_of_run run) (map (λ s. s.now) run.tokens.items) (map (λ s. s.now) run.outputs.items) stop

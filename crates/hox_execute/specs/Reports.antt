@@ -63,7 +63,6 @@ abbrev pub text_of : ℕ → Pair → List (List ℕ) → List ColumnView → Li
 text_of rate pair names columns =
     head_text (form pair.format) names rate (frames_told columns) ++ body_text pair columns ++ tail_text (form pair.format) (length (body_text pair columns)) (frames_told columns)
 
--- the file of the first of these pairs
 abbrev pub file_text : ℕ → List Pair → List StreamFile → List ℕ
 file_text rate [] files = []
 file_text rate (p ∷ ps) files = text_of rate p (channels_of (group_in (p ∷ ps))) (columns (group_in (p ∷ ps)) files)
@@ -77,7 +76,6 @@ file_texts rate (p ∷ ps) (file ∷ files) = if p.place == 0 then file_text rat
 abbrev pub file_note : StreamFile → FileNote
 file_note file = record { tokens = length file.tokens; clipped = file.clipped; is_misfit = file.is_misfit }
 
--- what is noted of a run beside its status
 pub record IsNoted (tokens outputs : List Pair) (told : Told) (ran : Ran) : Type 0 where
   pub notes : ran.notes ≡ told.notes
   pub tokens_are : ran.tokens.items ≡ tokens
@@ -88,7 +86,6 @@ pub record IsNoted (tokens outputs : List Pair) (told : Told) (ran : Ran) : Type
 abbrev pub reported : List Pair → List ℕ → Effect
 reported outputs report = if nat_lt 0 (count_standard outputs) then said report else wrote standard report
 
--- each stream goes to the file at its place
 abbrev pub streams_written : List Pair → List (List ℕ) → List Effect
 streams_written [] texts = []
 streams_written (p ∷ ps) [] = []

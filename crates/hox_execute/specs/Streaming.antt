@@ -67,7 +67,6 @@ uses_between choice inputs outputs = uses_in In (file_of choice) inputs (firsts 
 abbrev pub ArePairsOf : StreamChoice → List (List ℕ) → List Pair → Type 0
 ArePairsOf choice texts pairs = ArePairs (formats_of choice) (unsigned_of choice) texts pairs
 
--- a text names no file, or a text on formats is none or of no use
 abbrev pub AreUnpaired : StreamChoice → Stop → Type 0
 AreUnpaired choice stop =
     IsUnpaired (formats_of choice) (unsigned_of choice) (codes "in") (inputs_of choice) stop
@@ -137,12 +136,10 @@ pub record IsHeaded {X : Type 0} (seen : X → SinkView) (rate : ℕ) (pair : Pa
   pub empty : IfSome created (λ bytes. bytes ≡ [])
   pub headed : Appends created (seen stream).contents (head_text (form pair.format) names rate None)
 
--- a created file of one channel
 pub record IsCreated {X : Type 0} (seen : X → SinkView) (rate : ℕ) (pair : Pair) (sink : LaidOut X) : Type 0 where
   pub layout : sink.layout ≡ layout_of (form pair.format)
   pub headed : IsHeaded seen rate pair (pair.channel.now ∷ []) sink.stream
 
--- a created file of several channels
 pub record IsTabled {X : Type 0} (seen : X → SinkView) (rate : ℕ) (group : Group) (laid : LaidTable X) : Type 0 where
   pub table : laid.table ≡ table_in group.first
   pub columns : laid.columns.items ≡ map (λ (p : Pair). decimals_of (form p.format)) group.pairs
@@ -196,7 +193,6 @@ pub record RunsBetween (kinds : Family) (contents : List ℕ → Option (List �
   pub tabled : AllZip (IsTabled (λ (v : SinkView). v) (rate_in openings)) (groups ends.outputs.items) tables
   pub serves : Serves kinds start t (sources_at start openings) ins (new_outs (λ (v : SinkView). v) start.outputs sinks tables) outs finish
 
--- a text is rejected as a description
 abbrev pub IsRefusedText : (List ℕ → Option (ℕ × ℕ)) → (Card → Option Signature) → List ℕ → Unopened → Type 0
 IsRefusedText named signature text (IsRefused refused error) = LoadsChanged (as_meant named signature text) named signature false text (Err refused.fault)
 IsRefusedText named signature text (Faulty channels fault) = ⊥
@@ -218,7 +214,6 @@ module _ (named : List ℕ → Option (ℕ × ℕ)) (signature : Card → Option
     abbrev pub IsTextIn : List ℕ → Type 0
     IsTextIn text = IfSome (contents name) (λ bytes. text ≡ bytes)
 
-    -- the text in the file has this completed sketch
     abbrev pub IsSketchIn : Sketch → Type 0
     IsSketchIn sketch = (text : List ℕ) × IsTextIn text × IsSketchOf text sketch
 
@@ -236,7 +231,6 @@ module _ (kinds : Family) (named : List ℕ → Option (ℕ × ℕ)) where
   StartsBetween sketch ends start = IsStarted (both_family kinds exits) (streamed_net sketch ends) (channels_of ends.inputs.items) (channels_of ends.outputs.items) start
 
   module _ (signature : Card → Option Signature) where
-    -- the stream of a sketch between these ends has this fault
     abbrev pub HasStreamFault : Sketch → Ends → StreamFault → Type 0
     HasStreamFault sketch ends fault =
         IsStreamFault (both_family kinds exits) (streamed_net sketch ends) (IsNoNetwork (both_named named exit_named) (both_ports signature exit_ports) (with_exits (channels_of ends.outputs.items) sketch))
@@ -271,7 +265,6 @@ module _ (kinds : Family) (named : List ℕ → Option (ℕ × ℕ)) where
           pub opens : Opens (file_of choice) ends start
           pub runs : RunsBetween (both_family kinds exits) contents ends start t ins outs finish
 
-        -- why it is not
         abbrev pub IsStreamStop : StreamStop → Type 0
         IsStreamStop (Asked stop) = IsNoEnds clash choice (Asked stop)
         IsStreamStop OutputTwice = IsNoEnds clash choice OutputTwice

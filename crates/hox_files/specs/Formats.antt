@@ -14,7 +14,6 @@ is_equals b = b == 61
 abbrev pub HasEquals : List ℕ → Type 0
 HasEquals text = position_or_len is_equals text < length text
 
--- the name for all channels
 abbrev pub all_channels : List ℕ
 all_channels = codes "all"
 
@@ -22,7 +21,6 @@ all_channels = codes "all"
 abbrev pub is_named : List (List ℕ) → List ℕ → Bool
 is_named names channel = list_any (λ name. bytes_eq name channel || bytes_eq name all_channels) names
 
--- the text is for this channel
 abbrev pub is_text_of : List ℕ → List ℕ → Bool
 is_text_of channel text = nat_lt (position_or_len is_equals text) (length text) && bytes_eq (before_first is_equals text) channel
 

@@ -47,7 +47,6 @@ pub record IsPair (texts unsigned : List (List ℕ)) (part : Part) (pair : Pair)
 abbrev pub is_alone : Pair → Bool
 is_alone pair = pair.count == 1
 
--- what the channels of the file share
 abbrev pub shared_in : Pair → Option Shared
 shared_in pair = shared_by (form pair.format) pair.count
 
@@ -60,7 +59,6 @@ pub record IsUnlike (last pair : Pair) : Type 0 where
   pub later : 0 < pair.place
   pub other : shared_in pair ≢ shared_in last
 
--- no file given for several channels has a format for one
 abbrev pub AreShared : List Pair → Type 0
 AreShared pairs = All (λ p. is_single p ≡ false) pairs
 
@@ -83,11 +81,9 @@ pub record ArePairs (formats unsigned texts : List (List ℕ)) (pairs : List Pai
   pub said : AreSaid formats unsigned texts pairs
   pub shared : AreShared pairs
 
--- some text of an option has no `=`
 abbrev pub IsNoPair : List ℕ → List (List ℕ) → List ℕ → List ℕ → Type 0
 IsNoPair name texts option text = (option ≡ name) × Contains texts text × (HasEquals text → ⊥)
 
--- some text of this option has no `=`, or some format is none, or out of memory
 abbrev pub IsUnsaid : List (List ℕ) → List ℕ → List (List ℕ) → Stop → Type 0
 IsUnsaid formats name texts (NoPair option text) = IsNoPair name texts option.now text.now
 IsUnsaid formats name texts (Format stop) = IsNoFormat formats stop
@@ -123,7 +119,6 @@ abbrev pub group_in : List Pair → List Pair
 group_in [] = []
 group_in (p ∷ ps) = take p.count (p ∷ ps)
 
--- the files of several channels
 abbrev pub begins : Pair → Bool
 begins pair = (pair.place == 0) && not (is_alone pair)
 

@@ -58,11 +58,9 @@ IsErrorIn known (Failed error) = Unit {0}
 IsErrorIn known TooLong = IfSome known (λ bytes. LONGEST_FILE < length bytes)
 IsErrorIn known NoMemory = Unit {0}
 
--- how the words of a channel are shown
 abbrev pub shown_as : List (List ℕ) → List ℕ → StreamAs Decimals
 shown_as unsigned channel = record { channel = channel; written = record { digits = 0; is_unsigned = is_named unsigned channel } }
 
--- how the stream of a channel is written to its file
 abbrev pub written_as : Pair → StreamAs Layout
 written_as pair = record { channel = pair.channel.now; written = layout_of (form pair.format) }
 
@@ -115,11 +113,9 @@ module _ (contents : List ℕ → Option (List ℕ)) where
     pub files : AllZip IsRead tokens request.tokens
     pub rest : AsksRest want outputs request
 
-  -- why reading this file failed
   abbrev pub IsReadError : List ℕ → ReadError → Type 0
   IsReadError name error = IsErrorIn (contents name) error
 
-  -- what precedes the tokens in some pair's file is faulty
   abbrev pub IsHeadless : List Pair → FormatStop → Type 0
   IsHeadless pairs stop = Any (λ p. (bytes : List ℕ) × AreBytesOf p bytes × IsHeadFault p bytes stop) pairs
 

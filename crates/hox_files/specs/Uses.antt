@@ -59,21 +59,18 @@ module _ (clash : List ℕ → Bool → List ℕ → Bool → Option Bool) where
   IsFileClash is u v = IfSome (clash u.file (is_written u.role) v.file (is_written v.role)) (λ c. is ≡ c)
 
   -- no clash: they don't read tokens for one channel, don't both write to standard output, and their files
-  -- don't clash: so one doesn't write what the other reads or writes
+  -- don't clash
   pub record StandApart (u v : Used) : Type 0 where
     pub channels : gives_twice u v ≡ false
     pub outputs : writes_output_twice u v ≡ false
     pub files : IsFileClash false u v
 
-  -- two uses clash
   abbrev pub Clashes : Used → Used → Type 0
   Clashes u v = (gives_twice u v ≡ true) ⊎ (writes_output_twice u v ≡ true) ⊎ IsFileClash true u v
 
-  -- no two of these clash
   abbrev pub AreApart : List Used → Type 0
   AreApart = AllPairs StandApart
 
-  -- one of these uses clashes with a later one
   pub record IsClash (uses : List Used) (one other : Used) : Type 0 where
     pub first : ℕ
     pub later : ℕ

@@ -11,7 +11,6 @@ use crate::stops::Stop;
 use hox_args::channel_and_file;
 use hox_format::{Format, FormatFault, HeadFault, format_of};
 
-/// The name for all channels.
 const ALL: &str = "all";
 
 /// The formats of files, as texts `CHANNEL=FORMAT`, and the channels whose words are unsigned.

@@ -56,7 +56,6 @@ pub fn pairs_of<'a>(
     }
 }
 
-/// Parses the texts of an option, without checking the formats of shared files.
 fn all_pairs<'a>(
     alloc: Global,
     option: &'a str,

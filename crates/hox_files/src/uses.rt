@@ -120,7 +120,6 @@ fn push_uses<'a>(uses: &mut Vec<Use<'a>>, role: Role, pairs: &[Pair<'a>]) -> Res
     Ok(())
 }
 
-/// Returns two uses that clash, if there are any.
 fn clash_among<'a, S: FileSystem>(files: &S, uses: &[Use<'a>]) -> Option<(Use<'a>, Use<'a>)>
     ensures apart { result ≡ None → AreApart (S.clash files.now) (map used uses.now) }
     ensures clash { IfSome result (λ c. IsClash (S.clash files.now) (map used uses.now) (used c.0) (used c.1)) }
@@ -162,14 +161,12 @@ fn do_clash<S: FileSystem>(files: &S, one: Use<'_>, other: Use<'_>) -> bool
         )
 }
 
-/// Returns whether the tokens of one channel are read from two files.
 fn is_given_twice(one: Use<'_>, other: Use<'_>) -> bool
     ensures { result ≡ gives_twice (used one.entry) (used other.entry) }
 {
     one.role.gives_tokens() && other.role.gives_tokens() && one.channel == other.channel
 }
 
-/// Returns whether both write to standard output.
 fn is_output_twice(one: Use<'_>, other: Use<'_>) -> bool
     ensures { result ≡ writes_output_twice (used one.entry) (used other.entry) }
 {

@@ -26,7 +26,7 @@ use kpn_model::{Kinds, Token};
 use kpn_net::Net;
 use std::alloc::Global;
 
-/// Feeds the token of a record, if it has one. Returns false if there is no room.
+/// Feeds the token of a record, if it has one. Returns false if it can't be fed.
 fn feed_said<B: Body>(flow: &mut Flow<B>, channel: usize, said: Option<Token>) -> bool
     ensures same { IsSameFlow flow.old flow.new }
     ensures flows { IsTrue result → Flows (family B.Kinds.Kinds) flow.old.network flow.old.state (map (λ token. Fed channel token) (listed said)) flow.new.state }
@@ -59,8 +59,8 @@ fn take_said<B: Body, S: Source>(
     true
 }
 
-/// Takes the next record and feeds its token. Returns false if there is no room, before it reads a record, or
-/// no record.
+/// Takes the next record and feeds its token, if there are room and a record. Returns whether it did. Without
+/// room it reads no record.
 fn take_record<B: Body, S: Source>(alloc: Global, flow: &mut Flow<B>, inlet: &mut Inlet<S>) -> bool
     ensures pours { Pours (family B.Kinds.Kinds) flow.old flow.new inlet.old inlet.new }
     ensures unread { IsNotRead inlet.old inlet.new }
