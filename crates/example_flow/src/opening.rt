@@ -8,6 +8,7 @@ use kpn_net::{Check, Net, NetFault, read_sketch};
 use std::alloc::Global;
 use std::io::BufRead;
 
+/// The text of a description, and the lines that name the inputs and the outputs.
 #[derive(Drop)]
 pub struct Description {
     text: String,

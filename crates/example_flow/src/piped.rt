@@ -16,6 +16,7 @@ const STRETCH: u64 = 100_000;
 /// How many tokens one call drains at most.
 const BATCH: usize = 64;
 
+/// An input or an output.
 #[derive(Drop)]
 pub struct Port {
     pub channel: usize,

@@ -9,9 +9,8 @@ use kpn_body::{Body, Call, Standard, StandardBody, answer};
 use kpn_net::{Answer, Card, Local, Net, Token};
 use std::alloc::{AllocError, Global};
 
-/// Returns the first answer of each process, in order, from a body made with a closure of its own. The
-/// closure captures the card, and its clauses name nothing else; so one closure serves all kinds. Errors: out
-/// of memory.
+/// Returns the first answer of each process, in order, from a body made with a closure of its own. The closure
+/// captures the card, and its clauses name nothing else; so one closure serves all kinds. Errors: out of memory.
 pub fn first_answers(alloc: Global, net: &Net<Standard>) -> Result<Vec<Answer>, AllocError>
     ensures { IfOk result (λ answers. answers.items ≡ map (λ card. standard.answer card (standard.start card) None) (map (λ p. p.card) net.now.processes)) }
 {

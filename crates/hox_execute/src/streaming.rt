@@ -348,7 +348,7 @@ fn laid_source<S>(begun: Begun<S>) -> LaidOut<S>
     }
 }
 
-/// Returns the first stated number of samples per second.
+/// Returns the first stated number of samples per second, or else `USUAL_RATE`.
 fn rate_of<S>(sources: &[Begun<S>]) -> u32
     ensures { result ≡ first_rate (map (λ b. b.rate) sources.now) }
 {

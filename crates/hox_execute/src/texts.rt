@@ -50,7 +50,7 @@ fn file_note(file: &StreamFile) -> FileNote
     }
 }
 
-/// Returns the first stated number of samples per second.
+/// Returns the first stated number of samples per second, or else `USUAL_RATE`.
 pub(crate) fn rate_of(files: &[TokenFile]) -> u32
     ensures { result ≡ rate_of files.now }
 {

@@ -20,9 +20,8 @@ use kpn_tokens::{Decimals, Layout};
 use std::alloc::{AllocError, Global};
 use std::io;
 
-/// What a command wants: the description's file, the number of workers, the budget that overrides the
-/// description's, the channels whose streams to show, the formats of files, the channels whose words are
-/// unsigned, and whether to print only streams.
+/// What a command wants: the description's file, the number of workers, the budget that overrides the description's,
+/// the channels to show, the formats of files, the unsigned channels, and whether to print only streams.
 #[derive(Clone, Copy, Debug)]
 pub struct Wanted<'a, 'b> {
     pub file: &'a str,

@@ -45,11 +45,11 @@ pub enum Fault {
     Tokens(PresetFault),
     /// The budget is not from 1 to this number.
     Budget(u64),
-    /// Token file number `.0`, from 0, names no channel. The channels' names follow, in order.
+    /// No channel has this token file's name (numbered from 0). The names of all channels follow, in order.
     NoHolder(usize, Listed<Text>),
-    /// Name `.0` of those to show, from 0, is no channel. The channels' names follow, in order.
+    /// No channel has this name to show (numbered from 0). The names of all channels follow, in order.
     NoShown(usize, Listed<Text>),
-    /// Name `.0` of the outputs, from 0, is no channel. The channels' names follow, in order.
+    /// No channel has this output's name (numbered from 0). The names of all channels follow, in order.
     NoOutput(usize, Listed<Text>),
     /// Out of memory.
     Memory,

@@ -77,7 +77,7 @@ fn so_far<B: Body, H: Keeper>(machine: &Machine<B, H>) -> SoFar
     }
 }
 
-/// Watches the board of a run by several workers, and never stops the run.
+/// Watches the board of a run with several workers, and never stops the run.
 #[derive(Drop)]
 pub(crate) struct OnBoard<'a, P> {
     pub(crate) progress: &'a P,

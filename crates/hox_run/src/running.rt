@@ -35,8 +35,8 @@ const PERIOD: u64 = 100;
 /// wanted streams. A single worker is the calling thread. `progress` receives the progress of the run.
 ///
 /// If the run ends by itself, every run of the network that is over gives the same result, whatever the
-/// schedule and the number of workers (Kahn 1974). If the budget cuts the run, of each of its streams and
-/// that of any other run one is a prefix of the other.
+/// schedule and the number of workers (Kahn 1974). If the budget cuts the run, each of its streams is a
+/// prefix of any other run's, or the reverse.
 ///
 /// Errors: see [`RunFault`].
 pub fn execute<K: Computes, R: Wait + Clock + Threads + Sync, P: Progress>(

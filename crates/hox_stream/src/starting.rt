@@ -92,8 +92,8 @@ impl<F: Computes> OpenStream<F> {
 /// Opens a stream of a sketch's network, at its start, which feeds and drains the channels of these names.
 /// Processes that only read a drained channel stop at once, as [`Exits`] do.
 ///
-/// Errors: the fault of the sketch so changed; the first name whose channel can't be fed, then the first
-/// whose channel can't be drained; a channel named twice; or out of memory.
+/// Errors: the fault of the changed sketch; the first name of a channel that can't be fed, then of one that
+/// can't be drained; a channel named twice; or out of memory.
 pub fn open_stream<K: Computes>(
     alloc: Global,
     sketch: Sketch,
