@@ -2,8 +2,8 @@
 //!
 //! - `time WORKERS NUMBERS GATE`: times the run. Bodies compute that many random numbers before each answer;
 //!   the gate is `open` or `prompt`; 0 workers are the calling thread without a lock.
-//! - `stress WORKERS MOST SEED HELD OTHER`: bodies compute for random times, up to `MOST` random numbers (2^n
-//!   - 1), one process is held up for another, and the report is written.
+//! - `stress WORKERS MOST SEED HELD OTHER`: bodies compute up to `MOST` (2^n - 1) random numbers, one process
+//!   is held up for another, and the report is written.
 //!
 //! The exit status is 1 for other arguments, and 4 if the network can't be read or the run fails.
 #![tactic(auto)]
