@@ -1,4 +1,4 @@
-//! What is told of a flow.
+//! Writes the state of a flow.
 use crate::piped::CardFlow;
 use anyhow::Result;
 use kpn_body::Standard;
@@ -8,7 +8,7 @@ use kpn_report::places_of;
 use std::alloc::Global;
 use std::io::{self, Write};
 
-/// Why a flow came back, in a word.
+/// Returns why a flow paused, in a word.
 pub fn pause_text(pause: Pause) -> &'static str {
     match pause {
         Pause::Cut => "cut",
@@ -22,13 +22,13 @@ pub fn pause_text(pause: Pause) -> &'static str {
     }
 }
 
-/// Writes why the flow came back, and how many entries it has made.
+/// Writes why a flow paused, and how many entries and growths it has.
 pub fn write_pause<W: Write>(flow: &CardFlow, pause: Pause, sink: &mut W) -> io::Result<()> {
     let (text, entries, growths) = (pause_text(pause), flow.entries(), flow.growths());
     writeln!(sink, "{text} entries {entries} growths {growths}")
 }
 
-/// Writes where each process is.
+/// Writes the place of each process.
 pub fn write_places<W: Write>(alloc: Global, flow: &CardFlow, sink: &mut W) -> Result<()> {
     let places = places_of(alloc, flow.net(), flow.standings())?;
     Ok(write_each(flow.net(), places.as_slice(), sink)?)

@@ -1,10 +1,10 @@
-//! What a line says.
+//! Parses lines.
 use anyhow::{Result, bail};
 use kpn_net::Token;
 use std::alloc::Global;
 
-/// `Word`: a number, which is fed into the first input. `Feed`: `feed NAME TOKEN..`. `Drain`: `drain NAME
-/// MOST`. `Advance`: `advance MOST`. `End`: `end NAME`, whose input has ended.
+/// A command. `Word`: a number to feed into the first input. `Feed`: `feed NAME TOKEN..`. `Drain`: `drain
+/// NAME MOST`. `Advance`: `advance MOST`. `End`: `end NAME` ends an input.
 pub enum Line<'a> {
     Word(u64),
     Feed(&'a str),
@@ -13,7 +13,7 @@ pub enum Line<'a> {
     End(&'a str),
 }
 
-/// What the line says; `None` if nothing that is known.
+/// Parses a line; returns `None` if it is no command.
 pub fn read_line(line: &str) -> Option<Line<'_>> {
     match line.parse::<u64>() {
         Ok(word) => Some(Line::Word(word)),
@@ -21,7 +21,6 @@ pub fn read_line(line: &str) -> Option<Line<'_>> {
     }
 }
 
-/// What the words of a line say.
 fn read_words(line: &str) -> Option<Line<'_>> {
     let mut words = line.split_whitespace();
     match (words.next(), words.next()) {
@@ -30,7 +29,6 @@ fn read_words(line: &str) -> Option<Line<'_>> {
     }
 }
 
-/// What a verb says of a word and of what follows it.
 fn said<'a>(verb: &str, first: &'a str, rest: &str) -> Option<Line<'a>> {
     match verb {
         "feed" => Some(Line::Feed(first)),
@@ -41,7 +39,7 @@ fn said<'a>(verb: &str, first: &'a str, rest: &str) -> Option<Line<'a>> {
     }
 }
 
-/// The tokens of a line after its first two words.
+/// Returns the tokens of a line after its first two words.
 pub fn read_tokens(alloc: Global, line: &str) -> Result<Vec<Token>> {
     let mut tokens = Vec::new(alloc);
     for word in line.split_whitespace().skip(2) {
@@ -53,7 +51,6 @@ pub fn read_tokens(alloc: Global, line: &str) -> Result<Vec<Token>> {
     Ok(tokens)
 }
 
-/// The token of a word; `None` if it is none.
 fn token_of(word: &str) -> Option<Token> {
     match word {
         "true" => Some(Token::Flag(true)),

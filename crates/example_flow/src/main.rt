@@ -1,7 +1,7 @@
 //! Reads the description of a network, up to a line `inputs NAME..` and a line `outputs NAME..`, and then
-//! lines without end, in constant memory. A number is fed into the first input, and what comes out of
-//! the outputs is written, a line `NAME TOKEN` each. Other lines (`crate::lines`) say what to do one by
-//! one. After the last line all inputs have ended, and the end is told; after a line `stop` it is not.
+//! lines without end, in constant memory. It feeds a number into the first input, and writes each token of
+//! the outputs as a line `NAME TOKEN`. Other lines are commands (`crate::lines`). After the last line it ends
+//! all inputs and writes how the flow ended; after a line `stop` it doesn't.
 #![tactic(auto)]
 
 mod ending;
@@ -26,21 +26,19 @@ fn main(rt: HostRuntime) -> ExitCode {
     }
 }
 
-/// Plays what standard input says, and writes to standard output what comes of it.
 fn play<R: Input + Print>(rt: &R, alloc: Global) -> Result<()> {
     let mut sink = BufWriter::new(alloc, io::writer(rt))?;
     let mut source = BufReader::new(alloc, rt.reader())?;
     play_lines(alloc, &mut source, &mut sink)
 }
 
-/// Opens the flow that the first lines describe, and does what the others say.
 fn play_lines<S: BufRead, W: Write>(alloc: Global, source: &mut S, sink: &mut W) -> Result<()> {
     let description = read_description(alloc, source)?;
     let mut piped = open(alloc, &description)?;
     obey_all(alloc, &mut piped, source, sink)
 }
 
-/// Does what each line says, and flushes what came of it.
+/// Executes each line, and flushes the output.
 fn obey_all<S: BufRead, W: Write>(
     alloc: Global,
     piped: &mut Piped,
@@ -56,7 +54,7 @@ fn obey_all<S: BufRead, W: Write>(
     Ok(sink.flush()?)
 }
 
-/// Does what the next line says, and returns whether another one is to be read.
+/// Executes the next line. Returns whether to read another one.
 fn obey_next<S: BufRead, W: Write>(
     alloc: Global,
     piped: &mut Piped,

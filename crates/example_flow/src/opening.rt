@@ -1,4 +1,4 @@
-//! From the first lines to a flow.
+//! Opens a flow from the first lines.
 use crate::piped::{CardFlow, Piped, Port};
 use anyhow::{Result, bail};
 use kpn_body::Standard;
@@ -8,7 +8,7 @@ use kpn_net::{Check, Net, NetFault, read_sketch};
 use std::alloc::Global;
 use std::io::BufRead;
 
-/// The text of a description, and the names of its inputs and outputs.
+/// The text of a description, and the lines that name the inputs and the outputs.
 #[derive(Drop)]
 pub struct Description {
     text: String,
@@ -16,14 +16,12 @@ pub struct Description {
     outputs: String,
 }
 
-/// The inputs and the outputs of a flow.
 #[derive(Drop)]
 struct Ports {
     inputs: Vec<Port>,
     outputs: Vec<Port>,
 }
 
-/// The channels that are fed, and those that are drained.
 #[derive(Drop)]
 struct Channels {
     fed: Vec<usize>,
@@ -43,7 +41,7 @@ pub fn read_description<S: BufRead>(alloc: Global, source: &mut S) -> Result<Des
     })
 }
 
-/// Appends the lines of a description to a text, and returns the one after them, which begins with `inputs`.
+/// Appends the lines of a description to `text`, and returns the next one, which begins with `inputs`.
 fn read_text<S: BufRead>(alloc: Global, source: &mut S, text: &mut String) -> Result<String> {
     for _ in 0..u64::MAX {
         let line = next_line(alloc, source)?;
@@ -63,7 +61,7 @@ fn next_line<S: BufRead>(alloc: Global, source: &mut S) -> Result<String> {
     }
 }
 
-/// Opens a flow of the network that is described.
+/// Opens a flow of the described network.
 pub fn open(alloc: Global, description: &Description) -> Result<Piped> {
     match net_of(alloc, description.text.as_str()) {
         Ok(net) => open_net(alloc, net, description),
@@ -76,21 +74,19 @@ fn net_of(alloc: Global, text: &str) -> Result<Net<Standard>, NetFault> {
     Net::check(alloc, &sketch)
 }
 
-/// Opens a flow of a network between the inputs and the outputs that are described.
 fn open_net(alloc: Global, net: Net<Standard>, description: &Description) -> Result<Piped> {
     let ports = ports_of(alloc, &net, description)?;
     let flow = flow_between(alloc, net, &ports)?;
     Ok(Piped::new(flow, ports.inputs, ports.outputs))
 }
 
-/// The inputs and the outputs that are described.
 fn ports_of(alloc: Global, net: &Net<Standard>, description: &Description) -> Result<Ports> {
     let inputs = named_in(alloc, net, description.inputs.as_str())?;
     let outputs = named_in(alloc, net, description.outputs.as_str())?;
     Ok(Ports { inputs, outputs })
 }
 
-/// The channels that a line names after its first word.
+/// Returns the channels that a line names after its first word.
 fn named_in(alloc: Global, net: &Net<Standard>, line: &str) -> Result<Vec<Port>> {
     let mut ports = Vec::new(alloc);
     for word in line.split_whitespace().skip(1) {

@@ -11,19 +11,19 @@ use std::io::{self, Write};
 
 pub type CardFlow = Flow<CardBody<Standard>>;
 
-/// How many entries are made at most before what came out is written.
+/// How many entries are made at most before the output is written.
 const STRETCH: u64 = 100_000;
-/// How many tokens are drained in one call at most.
+/// How many tokens one call drains at most.
 const BATCH: usize = 64;
 
-/// An input or an output, with its name.
+/// An input or an output.
 #[derive(Drop)]
 pub struct Port {
     pub channel: usize,
     pub name: String,
 }
 
-/// A flow, whose inputs and outputs have names.
+/// A flow with named inputs and outputs.
 #[derive(Drop)]
 pub struct Piped {
     flow: CardFlow,
@@ -40,7 +40,7 @@ impl Piped {
         }
     }
 
-    /// Does what a line says, and writes what comes of it.
+    /// Executes a line, and writes its output.
     pub fn obey<W: Write>(&mut self, alloc: Global, line: &str, sink: &mut W) -> Result<()> {
         match read_line(line) {
             Some(Line::Word(word)) => self.pour(word, sink),
@@ -59,7 +59,6 @@ impl Piped {
         }
     }
 
-    /// Feeds the tokens that a line names after its first two words, and writes for how many there was room.
     fn feed_and_tell<W: Write>(
         &mut self,
         alloc: Global,
@@ -71,7 +70,7 @@ impl Piped {
         Ok(writeln!(sink, "fed {fed}")?)
     }
 
-    /// Feeds the tokens that a line names after its first two words, and returns for how many there was room.
+    /// Feeds the tokens after a line's first two words. Returns for how many there was room.
     fn feed(&mut self, alloc: Global, name: &str, line: &str) -> Result<usize> {
         let channel = self.input_named(name)?;
         let batch = read_tokens(alloc, line)?;
@@ -99,7 +98,7 @@ impl Piped {
         Ok(())
     }
 
-    /// Feeds a word into the first input. Where that is full, the flow goes on until there is room.
+    /// Feeds a word into the first input. While that is full, advances the flow.
     fn pour<W: Write>(&mut self, word: u64, sink: &mut W) -> Result<()> {
         let Some(input) = self.inputs.first() else {
             bail!("there is no input");
@@ -124,7 +123,6 @@ impl Piped {
         Ok(())
     }
 
-    /// Writes all that is in the outputs.
     fn write_outputs<W: Write>(&mut self, sink: &mut W) -> io::Result<()> {
         for port in self.outputs.iter() {
             write_all_of(&mut self.flow, port, sink)?;
@@ -132,7 +130,7 @@ impl Piped {
         Ok(())
     }
 
-    /// Says that all inputs have ended, goes on to the end, and tells it.
+    /// Ends all inputs, advances to the end, and writes how the flow ended.
     pub fn finish<W: Write>(&mut self, alloc: Global, sink: &mut W) -> Result<()> {
         for port in self.inputs.iter() {
             self.flow.end_input(port.channel);
@@ -152,7 +150,7 @@ impl Piped {
     }
 }
 
-/// Feeds a token, and returns whether there was room.
+/// Feeds a token. Returns whether there was room.
 fn offer(flow: &mut CardFlow, channel: usize, token: Token) -> Result<bool> {
     if !flow.may_feed(channel, token) {
         bail!("the input has ended, or has another sort");
@@ -160,7 +158,7 @@ fn offer(flow: &mut CardFlow, channel: usize, token: Token) -> Result<bool> {
     Ok(flow.feed(channel, token))
 }
 
-/// Writes at most so many tokens of an output.
+/// Writes at most `most` tokens of an output.
 fn write_output<W: Write>(
     flow: &mut CardFlow,
     port: &Port,
@@ -176,7 +174,6 @@ fn write_output<W: Write>(
     Ok(())
 }
 
-/// Takes a token of an output.
 fn take(flow: &mut CardFlow, channel: usize) -> Option<Token> {
     if !flow.is_output(channel) {
         return None;
@@ -184,7 +181,6 @@ fn take(flow: &mut CardFlow, channel: usize) -> Option<Token> {
     flow.drain(channel)
 }
 
-/// Writes all tokens of an output.
 fn write_all_of<W: Write>(flow: &mut CardFlow, port: &Port, sink: &mut W) -> io::Result<()> {
     for _ in 0..u64::MAX {
         let mut buffer = [Token::Word(0); BATCH];
@@ -199,7 +195,7 @@ fn write_all_of<W: Write>(flow: &mut CardFlow, port: &Port, sink: &mut W) -> io:
     Ok(())
 }
 
-/// Takes the next tokens of an output, at most as many as the buffer is long, and returns how many.
+/// Takes the next tokens of an output, as many as fit the buffer. Returns their number.
 fn take_batch(flow: &mut CardFlow, channel: usize, buffer: &mut [Token]) -> usize {
     if !flow.is_output(channel) {
         return 0;

@@ -5,11 +5,10 @@ use Rattle.kpn_sketch.specs.declared.sketch.ProcessSketch.{ProcessSketch}
 use Rattle.kpn_sketch.specs.declared.sketch.ChannelSketch.{ChannelSketch}
 use Rattle.kpn_sketch.specs.declared.sketch.Sketch.{Sketch}
 
--- a process with this name, kind and arguments
 abbrev pub process_sketch : List ℕ → List ℕ → List ℤ → ProcessSketch
 process_sketch name kind args = record { name = name; kind = kind; args = args }
 
--- a channel of words with capacity one, from an output of a process to an input of another
+-- a channel of words with capacity one
 abbrev pub channel_sketch : List ℕ → List ℕ → ℤ → List ℕ → ℤ → ChannelSketch
 channel_sketch name from out to input = record { name = name; from = from; to = to; out = out; input = input; sort = Words; capacity = pos 1; tokens = [] }
 

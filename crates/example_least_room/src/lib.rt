@@ -1,7 +1,7 @@
-//! How a caller uses the law of the least room on a network of the standard kinds.
+//! How to use the law of least room on a network of standard kinds.
 //!
-//! `longer_parks_case` makes a network for which capacities of two suffice, and `finish` runs it:
-//! whatever the schedule, no channel ever grows to three. docs/least-room.md explains the law.
+//! `longer_parks_case` makes a network for which capacities of two suffice, and `finish` runs it: whatever
+//! the schedule, no channel grows to three. docs/least-room.md explains the law.
 #![tactic(auto)]
 
 mod networks;

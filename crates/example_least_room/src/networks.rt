@@ -1,4 +1,4 @@
-//! Parks's case, made without a text.
+//! Parks's case, made in code.
 ghost use Rattle.std.specs.Prelude.{◌≡◌, IfOk};
 ghost use Rattle.test_laws.specs.WorkedRoom.{longer_parks_case as the_case};
 ghost use Rattle.example_least_room.specs.CaseSketch.{process_sketch, channel_sketch, case_processes, case_channels, case_sketch};
@@ -7,11 +7,11 @@ use kpn_net::{ChannelSketch, Check, Listed, Net, NetFault, ProcessSketch, Sketch
 use kpn_standard::Standard;
 use std::alloc::{AllocError, Global};
 
-/// Makes Parks's case (Parks 1995) with a counter of five. A counter is copied to both inputs of a
-/// weave, which takes three tokens of the one and then three of the other, into a sink of eight. Each
-/// channel begins with capacity one, and grows by one.
+/// Makes Parks's case (Parks 1995) with a counter of five. A copy sends the counter to both inputs of a
+/// weave, which sends three tokens of one and then three of the other to a sink of eight. All channels have
+/// capacity one, and grow by one.
 ///
-/// Fails if memory was refused.
+/// Errors: out of memory.
 pub fn longer_parks_case(alloc: Global) -> Result<Net<Standard>, AllocError>
     ensures { IfOk result (λ net. net ≡ the_case) }
 {
@@ -23,7 +23,6 @@ pub fn longer_parks_case(alloc: Global) -> Result<Net<Standard>, AllocError>
     }
 }
 
-/// Its description.
 fn sketch(alloc: Global) -> Result<Sketch, AllocError>
     ensures { IfOk result (λ sketch. sketch ≡ case_sketch) }
 {
@@ -58,7 +57,6 @@ fn channels(alloc: Global) -> Result<Listed<ChannelSketch>, AllocError>
     Ok(channels)
 }
 
-/// A process with this name, kind and arguments.
 fn process(
     alloc: Global,
     name: &str,
@@ -74,7 +72,7 @@ fn process(
     })
 }
 
-/// A channel of words with capacity one, from an output of a process to an input of another.
+/// Makes a channel of words with capacity one.
 fn channel(
     alloc: Global,
     name: &str,
@@ -97,7 +95,6 @@ fn channel(
     })
 }
 
-/// A text of these characters.
 fn text(alloc: Global, characters: &str) -> Result<Text, AllocError>
     ensures { IfOk result (λ text. text ≡ characters.now) }
 {

@@ -1,4 +1,4 @@
-//! A run of Parks's case, and how much room it takes.
+//! Runs Parks's case, and bounds its room.
 ghost use Rattle.std.specs.Prelude.{◌≡◌, ◌≢◌, ℕ, ◌<◌, ◌≤◌, Some, IsSome, count_by, length};
 ghost use Rattle.kpn_model.specs.Families.{family};
 ghost use Rattle.kpn_model.specs.declared.history.End.TheVariants.{Budget, Ceiling};
@@ -14,13 +14,13 @@ use kpn_machine::Machine;
 use kpn_net::Entry;
 use test_laws::worked_room;
 
-/// Runs Parks's case with a counter of five to its end in the calling thread, and returns how often a
-/// channel grew. No process may be out.
+/// Runs Parks's case with a counter of five to its end in the calling thread, and returns the number of
+/// growths. No process may be out.
 ///
-/// Capacities of two suffice for it, in a run of 46 entries. So, by what `finish_alone` ensures, no
-/// channel ever grows to three; there are at most eight growths, two for each of the four channels, and
-/// 54 entries; and neither the ceiling nor the budget ends the run. It ends because all have stopped,
-/// because none can go on, or because memory for a growth was refused.
+/// Capacities of two suffice, in a run of 46 entries. So, by the contract of `finish_alone`, no channel grows
+/// to three; there are at most eight growths, two for each of the four channels, and 54 entries; and neither
+/// the ceiling nor the budget ends the run. It ends because all processes have stopped, none can continue, or
+/// a growth gets no memory.
 pub fn finish<B: Body>(machine: &mut Machine<B>) -> usize
     requires standard { (family B.Kinds.Kinds) ≡ standard }
     requires network { machine.old.network ≡ longer_parks_case }
@@ -38,7 +38,6 @@ pub fn finish<B: Body>(machine: &mut Machine<B>) -> usize
     count_growths(machine.history())
 }
 
-/// How many entries of a history are growths.
 fn count_growths(history: &[Entry]) -> usize
     ensures { result ≡ count_by entry_grows history.now }
 {

@@ -4,7 +4,6 @@ use kpn_net::NetFault;
 use std::alloc::AllocError;
 use thiserror::Error;
 
-/// Why a network was not made, not written or not run.
 #[derive(Debug, Drop, Error)]
 pub(crate) enum Failure {
     #[error("out of memory")]

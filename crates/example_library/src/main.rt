@@ -1,6 +1,6 @@
-//! A network that is made by code, checked, written as a description, and run by four workers beside a
-//! line of progress on standard error; then what went through two of its channels, as CSV. After it a
-//! network that is stopped, and one that threads of the program's own run.
+//! Builds a network in code, checks it, writes it as a description, runs it with four workers and a line of
+//! progress on standard error, and prints two of its streams as CSV. Then stops a network, and runs one with
+//! threads of its own.
 #![tactic(auto)]
 
 mod failure;
@@ -21,7 +21,7 @@ use std::sync::Wait;
 use std::thread::Threads;
 use std::time::Duration;
 
-/// What a message lists where a kind is unknown.
+/// The kinds that a message lists if a kind is unknown.
 const KINDS: &str = "count, sink, scale, copy, prefix and add";
 
 /// Sums of each word and the one before it, of the multiples of three.
@@ -44,7 +44,7 @@ fn make(made: &mut Builder) -> Result<(), AllocError> {
     made.channel(NewChannel::new("y", "sum", "snk").capacity(4))
 }
 
-/// Says how far a run has come.
+/// Prints the progress of a run.
 #[derive(Drop)]
 struct Ticker<'a, R> {
     rt: &'a R,
@@ -60,7 +60,7 @@ impl<'a, R: Eprint + Sync> Observer for Ticker<'a, R> {
     }
 }
 
-/// The words that went through a channel.
+/// Returns the words that went through a channel.
 fn words(alloc: Global, run: &WatchedRun<Standard>, channel: &str) -> Result<Vec<u64>, AllocError> {
     let mut words = Vec::new(alloc);
     let Some(channel) = run.net().find_channel(channel) else {
@@ -74,7 +74,6 @@ fn words(alloc: Global, run: &WatchedRun<Standard>, channel: &str) -> Result<Vec
     Ok(words)
 }
 
-/// Prints what went through two channels, as CSV.
 fn print_streams<R: Print>(
     rt: &R,
     alloc: Global,
@@ -102,7 +101,7 @@ fn play<R: Threads + Wait + Clock + Print + Eprint + Sync>(
     }
 }
 
-/// Writes what was made, and runs it if it is a network.
+/// Writes the network as a description, and runs it if it is valid.
 fn show<R: Threads + Wait + Clock + Print + Eprint + Sync>(
     rt: &R,
     alloc: Global,
@@ -121,7 +120,6 @@ fn show<R: Threads + Wait + Clock + Print + Eprint + Sync>(
     }
 }
 
-/// Makes the networks one after the other, and shows what goes through them.
 fn show_all<R: Threads + Wait + Clock + Print + Eprint + Sync>(
     rt: &R,
     alloc: Global,

@@ -1,5 +1,5 @@
-//! A network is run by threads of the program's own, each of which takes tasks, asks bodies and commits
-//! their answers as it likes.
+//! Runs a network with threads of the program's own, each of which takes tasks, asks bodies and commits their
+//! answers.
 use crate::failure::Failure;
 use crate::words;
 use kpn_builder::{Builder, NewChannel};
@@ -13,7 +13,7 @@ use std::sync::atomic::{AtomicU64, Ordering};
 use std::sync::ledger::Ledger;
 use std::thread::Threads;
 
-/// Threads that count the entries that they bring about.
+/// Threads that count the entries that they append.
 #[derive(Drop)]
 struct Counting<'a, R> {
     rt: &'a R,
@@ -21,7 +21,7 @@ struct Counting<'a, R> {
 }
 
 impl<'a, R: Eprint> Counting<'a, R> {
-    /// Counts the entries that a commit appended, and says how many there are.
+    /// Counts the entries that a commit appended, and prints the total.
     fn count(&self, outcome: Outcome) {
         match outcome {
             Outcome::Done(more) | Outcome::Parked(more) => {
@@ -64,7 +64,7 @@ fn network(alloc: Global) -> Result<Net<Standard>, Failure> {
     make(&mut made)
 }
 
-/// Runs the network by three threads, and prints how many entries they brought about and what they sent.
+/// Runs the network with three threads, and prints the number of entries and the words.
 pub(crate) fn show<R: Threads + Wait + Print + Eprint + Sync>(
     rt: &R,
     alloc: Global,
@@ -80,7 +80,6 @@ pub(crate) fn show<R: Threads + Wait + Print + Eprint + Sync>(
     Ok(())
 }
 
-/// Prints how many entries a run has, and what went through its channel.
 fn print<R: Print>(
     rt: &R,
     alloc: Global,

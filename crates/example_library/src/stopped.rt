@@ -1,5 +1,4 @@
-//! A network that would count for a long time is run by two workers, and stopped when a deadline has
-//! passed.
+//! Runs a network that would count for a long time with two workers, and stops it after a deadline.
 use crate::failure::Failure;
 use crate::words;
 use kpn_builder::{Builder, NewChannel};
@@ -30,7 +29,7 @@ impl<'a, R: Clock + Sync> Observer for Deadline<'a, R> {
     }
 }
 
-/// Has each answer wait for a while, so that the budget lasts.
+/// Delays each answer, so that the budget lasts.
 #[derive(Drop)]
 struct Slowly<'a, R> {
     rt: &'a R,
@@ -55,7 +54,7 @@ fn network(alloc: Global) -> Result<Net<Standard>, Failure> {
     make(&mut made)
 }
 
-/// Runs the network until the deadline, and prints the first words that came out.
+/// Runs the network until the deadline, and prints its first words.
 pub(crate) fn show<R: Threads + Wait + Clock + Print + Sync>(
     rt: &R,
     alloc: Global,
@@ -73,7 +72,6 @@ pub(crate) fn show<R: Threads + Wait + Clock + Print + Sync>(
     }
 }
 
-/// Prints the first five words that went through the channel.
 fn print_first<R: Print>(
     rt: &R,
     alloc: Global,

@@ -1,4 +1,4 @@
--- The family whose one kind is flip: it reads a flag and writes the other, for ever.
+-- The family with the one kind flip: it reads a flag and writes its negation, forever.
 use Rattle.std.specs.Prelude.{◌≡◌, ℕ, ◌==◌, ◌&&◌, not, Bool, if◌then◌else◌, List, [], ◌∷◌, Option, Some, None, codes}
 use Rattle.std.specs.Str.{bytes_eq}
 use Rattle.kpn_model.specs.declared.token.Token.{Token}
@@ -11,11 +11,10 @@ use Rattle.kpn_model.specs.Network.{Family}
 use Rattle.kpn_standard.specs.Locals.{at}
 use Rattle.kpn_standard.specs.Table.{one_flag}
 
--- the number of the kind with this name, and how many arguments it takes
+-- the number of a kind by its name, and how many arguments it takes
 abbrev pub number_named : List ℕ → Option (ℕ × ℕ)
 number_named name = if bytes_eq name (codes "flip") then Some (0, 0) else None
 
--- the one card
 abbrev pub flip : Card
 flip = record { kind = 0; args = 0 ∷ 0 ∷ 0 ∷ [] }
 
@@ -25,14 +24,12 @@ is_flip card = (card.kind == 0) && ((at card.args 0 == 0) && ((at card.args 1 ==
 abbrev pub ports : Card → Option Signature
 ports card = if is_flip card then Some (record { ins = one_flag; outs = one_flag }) else None
 
--- the local states before the read and after it
 abbrev pub before_read : List ℕ
 before_read = 0 ∷ 0 ∷ 0 ∷ 0 ∷ []
 
 abbrev pub after_read : List ℕ
 after_read = 1 ∷ 0 ∷ 0 ∷ 0 ∷ []
 
--- the lines of the table: the local state, by the token of the read just done
 abbrev pub FlipLine : List ℕ → Option Token → Type 0
 FlipLine local None = local ≡ before_read
 FlipLine local (Some (Flag f)) = local ≡ after_read

@@ -1,10 +1,10 @@
-//! Bodies of any family, asked as tasks.
+//! Asks bodies of any family as tasks.
 ghost use Rattle.std.specs.Prelude.{◌≡◌, None};
 
 use kpn_body::{Body, Task};
 use kpn_net::{Answer, Kinds, Local, Token};
 
-/// Returns what a body answers as the task of process 0.
+/// Returns a body's answer as the task of process 0.
 pub fn answer_of<B: Body>(body: B, local: Local, last: Option<Token>) -> Answer
     requires { B.Kinds.admits (B.card body) local last }
     ensures { result ≡ B.Kinds.answer_of (B.card body) local last }
@@ -12,7 +12,7 @@ pub fn answer_of<B: Body>(body: B, local: Local, last: Option<Token>) -> Answer
     Task::new(0, body, local, last).call().answer()
 }
 
-/// Returns what a body answers at the start of its process.
+/// Returns a body's first answer.
 pub fn first_answer<B: Body>(body: B) -> Answer
     ensures { result ≡ B.Kinds.answer_of (B.card body) (B.Kinds.start (B.card body)) None }
 {

@@ -1,4 +1,4 @@
-//! The bodies of a network of standard kinds.
+//! Bodies for a network of standard kinds.
 ghost use Rattle.std.specs.Prelude.{◌≡◌, ◌<◌, IsSome, IfOk, Some, None, length, map, slice_get};
 ghost use Rattle.kpn_standard.specs.Standard.{standard};
 ghost use Rattle.kpn_model.specs.Valid.{IsValid};
@@ -9,11 +9,8 @@ use kpn_body::{Body, Call, Standard, StandardBody, answer};
 use kpn_net::{Answer, Card, Local, Net, Token};
 use std::alloc::{AllocError, Global};
 
-/// Returns what each process of a network answers first, in the order of the processes. A body is made
-/// for each, with a closure of its own, and asked once.
-///
-/// The closure captures the card, and its clauses name nothing else; so one closure serves all kinds.
-/// Fails if memory was refused.
+/// Returns the first answer of each process, in order, from a body made with a closure of its own. The closure
+/// captures the card, and its clauses name nothing else; so one closure serves all kinds. Errors: out of memory.
 pub fn first_answers(alloc: Global, net: &Net<Standard>) -> Result<Vec<Answer>, AllocError>
     ensures { IfOk result (λ answers. answers.items ≡ map (λ card. standard.answer card (standard.start card) None) (map (λ p. p.card) net.now.processes)) }
 {

@@ -1,4 +1,4 @@
-//! A family of a caller's own: one kind, `flip`, which reads a flag and writes the other, for ever.
+//! A family of your own: one kind, `flip`, which reads a flag and writes its negation, forever.
 ghost use Rattle.std.specs.Prelude.{◌≡◌, IsSome, IfOk, option_map};
 ghost use Rattle.kpn_body.specs.Calls.{IsCallable, Answers, answers_prop};
 ghost use Rattle.example_own_kinds.specs.Flip.{number_named, ports, FlipLine, answer, flips, flip};
@@ -8,8 +8,7 @@ use kpn_body::{Body, Call};
 use kpn_net::{Act, Answer, Card, Kinds, Local, Signature, Sort, Token};
 use std::alloc::{AllocError, Global};
 
-/// The family whose one kind is `flip`, of number 0, with no argument, an input and an output of
-/// flags.
+/// The family with the one kind `flip`, number 0, without arguments, with one input and one output of flags.
 pub struct Flips;
 
 impl Kinds for Flips {
@@ -51,7 +50,7 @@ impl Kinds for Flips {
     fn lawful() {}
 }
 
-/// Returns the answer in a line of the table, by the token of the read just done.
+/// Returns the answer in a line of the table, by the token just read.
 pub fn line_of(last: Option<Token>) -> Answer
     ensures { result ≡ answer last }
 {
@@ -78,8 +77,7 @@ pub struct FlipBody {
 }
 
 impl FlipBody {
-    /// Makes a body of a card that has a signature. It must be allowed to call `call` on each line of
-    /// the table, and `call` must then return the line's answer.
+    /// Makes a body of a card with a signature. `call` must accept each line of the table, and return its answer.
     pub fn new(card: Card, call: Call) -> Self
         requires signed { IsSome (ports card) }
         requires callable { IsCallable FlipLine (pre call) }
@@ -104,8 +102,7 @@ impl Body for FlipBody {
     }
 }
 
-/// Returns what a flip answers before it has read, or after it has read a flag. Fails if memory was
-/// refused.
+/// Returns the answer of a flip before a read, or after it has read a flag. Errors: out of memory.
 pub fn flip_answer(alloc: Global, read: Option<bool>) -> Result<Answer, AllocError>
     ensures { IfOk result (λ a. a ≡ answer (option_map Token.Flag read)) }
 {

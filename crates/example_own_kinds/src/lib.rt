@@ -1,7 +1,7 @@
-//! How a caller brings kinds of processes, and closures for the standard ones.
+//! How to add kinds of your own, and closures for the standard ones.
 //!
-//! `flip` has a family with one kind, from the table of its lines to its bodies, which store closures.
-//! The last section of `docs/own-kinds.md` explains it.
+//! `flip` is a family with one kind, from the table of its lines to its bodies, which store closures. The
+//! last section of `docs/own-kinds.md` explains it.
 #![tactic(auto)]
 
 pub mod asked;

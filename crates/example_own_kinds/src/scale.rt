@@ -1,4 +1,4 @@
-//! A caller's own closure for a standard kind.
+//! A closure of your own for a standard kind.
 ghost use Rattle.std.specs.Prelude.{◌≡◌, ◌*◌, ◌%◌, ◌^◌, ◌∷◌, [], IfOk};
 ghost use Rattle.kpn_standard.specs.Standard.{standard};
 ghost use Rattle.kpn_standard.specs.Locals.{says};
@@ -9,11 +9,11 @@ use kpn_body::{Call, StandardBody};
 use kpn_net::{Act, Answer, Card, Local, Token};
 use std::alloc::{AllocError, Global};
 
-/// The number of the standard kind `scale`, which reads a word and writes its product by a factor.
+/// The number of the standard kind `scale`.
 const SCALE: u16 = 6;
 
-/// Returns what a scale by this factor answers after it has read a word: it writes their product modulo
-/// 2^64, and goes back to its first local state. Fails if memory was refused.
+/// Returns the answer of a scale by `factor` after it has read a word: it writes the product modulo 2^64, and
+/// returns to its first local state. Errors: out of memory.
 pub fn scale_answer(alloc: Global, factor: u64, word: u64) -> Result<Answer, AllocError>
     ensures { IfOk result (λ a. a ≡ says 0 0 0 (Act.Write 0 (Token.Word ((factor * word) % 2 ^ 64)))) }
 {

@@ -1,4 +1,4 @@
--- Hamming's numbers (examples/hamming.toml): the stream begins with 1, and goes on with its own doubles, triples and quintuples,
+-- Hamming's numbers (examples/hamming.toml): 1, and then the stream's own doubles, triples and quintuples,
 -- merged. A gate lets n numbers through.
 use Rattle.std.specs.Prelude.{◌≡◌, ℕ, ◌*◌, ◌^◌, ◌<◌, ◌≤◌, List, [], ◌∷◌, length, Contains}
 use Rattle.std.specs.List.Sorted.{IsStrictlyIncreasing}
@@ -14,14 +14,13 @@ use Rattle.kpn_standard.specs.Standard.{standard}
 use Rattle.kpn_streams.specs.Joined.{Reaches}
 use Rattle.test_laws.specs.Building.{process, sink, take, copy, scale, merge, words, numbers, network}
 
--- a power of 2 by a power of 3 by a power of 5
 pub record IsHamming (z : ℕ) : Type 0 where
   pub twos : ℕ
   pub threes : ℕ
   pub fives : ℕ
   pub is : z ≡ 2 ^ twos * (3 ^ threes * 5 ^ fives)
 
--- the first ones: they rise, so that none is there twice; they are Hamming's; and none is missing that isn't greater than the last
+-- the first ones: they increase strictly, are Hamming's, and miss none up to the last
 pub record AreFirstHamming (xs : List ℕ) : Type 0 where
   pub rise : IsStrictlyIncreasing xs
   pub only : (z : ℕ) → Contains xs z → IsHamming z
@@ -34,7 +33,6 @@ pub record AreHamming (ts : List Token) (n : ℕ) : Type 0 where
   pub first : AreFirstHamming values
   pub so_many : length values ≡ n
 
--- the gate lets n numbers through, and the sink takes k. Channel 0 leads to the gate, channel 2 to the sink
 abbrev pub hamming : ℕ → ℕ → Network
 hamming n k =
     network
@@ -56,21 +54,21 @@ hamming n k =
     ∷ []
     )
 
--- the first n of them are so small that no product of the network is too great for 64 bits
+-- the first n of them are so small that all products fit into 64 bits
 abbrev pub AreSmall : ℕ → Type 0
 AreSmall n = (xs : List ℕ) → AreFirstHamming xs → length xs ≤ n → (z : ℕ) → Contains xs z → 5 * z < 2 ^ 64
 
--- as are at least the first 62
+-- as at least the first 62 are
 abbrev pub FewAreSmall : Type 0
 FewAreSmall = (n : ℕ) → n ≤ 62 → AreSmall n
 
--- whatever a run, over or not and from whatever starting capacities, has written to the sink are the first ones
+-- each run, over or not and from any starting capacities, has written the first ones to the sink
 abbrev pub HammingInRun : Type 0
 HammingInRun =
     (n k : ℕ) → AreSmall n → (sizes : ℕ → ℕ) (E : List Entry) (M : State) → IsRun standard (resized (hamming n k) sizes) E M
     → (m : ℕ) × (m ≤ n) × AreHamming (stream (hamming n k) E 2) m
 
--- a run that terminates or ends in a deadlock has written all n
+-- a run that terminates or deadlocks has written all n
 abbrev pub HammingAtEnd : Type 0
 HammingAtEnd =
     (n k : ℕ) → AreSmall n → (sizes : ℕ → ℕ) (E : List Entry) (M : State) (a : End) → IsFinal standard (resized (hamming n k) sizes) E M a → IsNatural a

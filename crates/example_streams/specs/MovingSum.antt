@@ -1,5 +1,5 @@
--- A moving sum (examples/moving_sum.toml): one copy of the signal goes to the adder as it is, the other one token later, since its
--- channel begins with 0.
+-- A moving sum (examples/moving_sum.toml): an adder gets a signal directly, and also one token later, since
+-- that channel begins with 0.
 use Rattle.std.specs.Prelude.{ℕ, ◌+◌, ◌%◌, ◌^◌, List, [], ◌∷◌}
 use Rattle.kpn_model.specs.declared.token.Token.{Token}
 use Rattle.kpn_model.specs.Network.{Network}
@@ -8,21 +8,21 @@ use Rattle.kpn_streams.specs.Solving.{HasStreams}
 use Rattle.test_laws.specs.Building.{count, sink, copy, add, words, holding, numbers, network}
 use Rattle.example_streams.specs.Arriving.{arriving, on_channels}
 
--- the source counts n numbers from `from` on, after the numbers xs, and the sink takes k
+-- the source counts n numbers from `from` on, after xs, and the sink takes k
 abbrev pub moving_sum : List ℕ → ℕ → ℕ → ℕ → Network
 moving_sum xs from n k =
     network (count from n ∷ copy ∷ add ∷ sink k ∷ [])
     (holding (numbers xs) (words (0, 0) (1, 0) 1) ∷ words (1, 0) (2, 0) 1 ∷ holding (numbers (0 ∷ [])) (words (1, 1) (2, 1) 1) ∷ words (2, 0) (3, 0) 1 ∷ [])
 
--- each number and the one before it, modulo 2^64; before the first stands b
+-- each number plus the one before it, modulo 2^64; b precedes the first
 abbrev pub sums_of_two : ℕ → List ℕ → List ℕ
 sums_of_two b [] = []
 sums_of_two b (x ∷ xs) = (x + b) % 2 ^ 64 ∷ sums_of_two x xs
 
--- from the source to the copy, from it to the adder twice, and to the sink
+-- the channels from the source to the copy, from it to the adder (two), and to the sink
 abbrev pub moving_streams : List ℕ → ℕ → List Token
 moving_streams xs = on_channels (numbers xs ∷ numbers xs ∷ numbers (0 ∷ xs) ∷ numbers (sums_of_two 0 xs) ∷ [])
 
--- of whatever arrives the network computes the sums of two numbers that follow each other
+-- for any input the network computes the sums of adjacent numbers
 abbrev pub MovingSum : Type 0
 MovingSum = (xs : List ℕ) (from n k : ℕ) → HasStreams standard (moving_sum xs from n k) (moving_streams (arriving xs from n))

@@ -1,5 +1,5 @@
--- Running sums (examples/running_sums.toml): an adder adds each number to the sum before it, which comes back through a copy. The
--- first sum before it is a start token, 0.
+-- Running sums (examples/running_sums.toml): an adder adds each number to the sum before it, which comes back
+-- through a copy. The first such sum is a start token, 0.
 use Rattle.std.specs.Prelude.{◌≡◌, ℕ, ◌+◌, ◌%◌, ◌^◌, ◌<◌, List, [], ◌∷◌, length, get_or, take, sum}
 use Rattle.kpn_model.specs.declared.token.Token.{Token}
 use Rattle.kpn_model.specs.Network.{Network}
@@ -8,26 +8,26 @@ use Rattle.kpn_streams.specs.Solving.{HasStreams}
 use Rattle.test_laws.specs.Building.{count, sink, copy, add, words, holding, numbers, network}
 use Rattle.example_streams.specs.Arriving.{arriving, on_channels}
 
--- the source counts n numbers from `from` on, after the numbers xs, and the sink takes k
+-- the source counts n numbers from `from` on, after xs, and the sink takes k
 abbrev pub running_sums : List ℕ → ℕ → ℕ → ℕ → Network
 running_sums xs from n k =
     network (count from n ∷ add ∷ copy ∷ sink k ∷ [])
     (holding (numbers xs) (words (0, 0) (1, 0) 1) ∷ holding (numbers (0 ∷ [])) (words (2, 0) (1, 1) 1) ∷ words (1, 0) (2, 0) 1 ∷ words (2, 1) (3, 0) 1 ∷ [])
 
--- the sums so far of s and these numbers, modulo 2^64
 abbrev pub sums_so_far : ℕ → List ℕ → List ℕ
 sums_so_far s [] = []
 sums_so_far s (x ∷ xs) = (s + x) % 2 ^ 64 ∷ sums_so_far (s + x) xs
 
--- from the source to the adder, from the copy back to the adder, from the adder to the copy, and to the sink
+-- the channels from the source to the adder, from the copy back to the adder, from the adder to the copy, and
+-- to the sink
 abbrev pub running_streams : List ℕ → ℕ → List Token
 running_streams xs =
     on_channels (numbers xs ∷ numbers (0 ∷ sums_so_far 0 xs) ∷ numbers (sums_so_far 0 xs) ∷ numbers (sums_so_far 0 xs) ∷ [])
 
--- of whatever arrives the network computes the sums so far
+-- for any input the network computes the sums so far
 abbrev pub RunningSums : Type 0
 RunningSums = (xs : List ℕ) (from n k : ℕ) → HasStreams standard (running_sums xs from n k) (running_streams (arriving xs from n))
 
--- there is one for each number, and at place k stands the sum of the numbers up to there
+-- each of them is the sum of the numbers up to its place
 abbrev pub SumsAreSums : Type 0
 SumsAreSums = (xs : List ℕ) (k : ℕ) → k < length xs → get_or (sums_so_far 0 xs) k 0 ≡ sum (take (k + 1) xs) % 2 ^ 64

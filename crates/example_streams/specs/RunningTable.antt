@@ -6,11 +6,11 @@ use Rattle.kpn_streams.specs.Solving.{Approximates, HasStreams}
 use Rattle.test_laws.specs.Building.{numbers}
 use Rattle.example_streams.specs.RunningSums.{running_sums}
 
--- what the four channels have at last
+-- the final streams of the four channels
 abbrev pub last_column : List (List ℕ)
 last_column = (1 ∷ 2 ∷ 3 ∷ []) ∷ (0 ∷ 1 ∷ 3 ∷ 6 ∷ []) ∷ (1 ∷ 3 ∷ 6 ∷ []) ∷ (1 ∷ 3 ∷ 6 ∷ []) ∷ []
 
--- and before, beginning with nothing
+-- the streams before, from nothing on
 abbrev pub columns : List (List (List ℕ))
 columns =
     ([] ∷ [] ∷ [] ∷ [] ∷ [])

@@ -1,4 +1,4 @@
--- A sieve (examples/sieve.toml): three stages, each a copy, a question whether its number divides what arrives, and a switch.
+-- A sieve (examples/sieve.toml): three stages, each a copy, a test whether its number divides a word, and a switch.
 use Rattle.std.specs.Prelude.{ℕ, ◌%◌, ◌==◌, not, List, [], ◌∷◌, filter, map}
 use Rattle.kpn_model.specs.declared.token.Token.{Token}
 use Rattle.kpn_model.specs.declared.token.Token.TheVariants.{Flag}
@@ -9,7 +9,7 @@ use Rattle.kpn_streams.specs.Solving.{HasStreams}
 use Rattle.test_laws.specs.Building.{count, sink, copy, divides, switch, words, flags, holding, numbers, network}
 use Rattle.example_streams.specs.Arriving.{arriving, on_channels}
 
--- the stages ask for a, b and c; the source counts n numbers from `from` on, after the numbers xs; sink i takes so many
+-- the stages test for a, b and c; the source counts n numbers from `from` on, after xs; sink i takes `takes i`
 abbrev pub sieve : ℕ → ℕ → ℕ → List ℕ → ℕ → ℕ → (ℕ → ℕ) → Network
 sieve a b c xs from n takes =
     network
@@ -57,7 +57,7 @@ multiples m xs = filter (λ x. x % m == 0) xs
 abbrev pub others : ℕ → List ℕ → List ℕ
 others m xs = filter (λ x. not (x % m == 0)) xs
 
--- the channels before and in a stage, to which xs come: n, ask, w, yes, drop
+-- the channels before and in a stage with input xs: n, ask, w, yes, drop
 abbrev pub stage : ℕ → List ℕ → List (List Token) → List (List Token)
 stage m xs rest = numbers xs ∷ numbers xs ∷ numbers xs ∷ map (λ f. Flag f) (divided m xs) ∷ numbers (multiples m xs) ∷ rest
 
@@ -67,7 +67,7 @@ sieve_streams a b c xs =
     on_channels
     (stage a xs (stage b (others a xs) (stage c (others b (others a xs)) (numbers (others c (others b (others a xs))) ∷ []))))
 
--- of whatever arrives each stage lets through what its number doesn't divide, in order, and so those come to the last channel that
--- none of the three divides
+-- for any input each stage passes on what its number doesn't divide, in order; so the last channel gets the
+-- numbers that none of the three divides
 abbrev pub Sieve : Type 0
 Sieve = (a b c : ℕ) (xs : List ℕ) (from n : ℕ) (takes : ℕ → ℕ) → HasStreams standard (sieve a b c xs from n takes) (sieve_streams a b c (arriving xs from n))

@@ -1,7 +1,6 @@
-//! What five of the networks in examples/ compute, for all that may arrive, proved by solving their
-//! equations with functions on streams.
+//! What five networks of examples/ compute for any input, proved by solving their equations.
 //!
-//! A function here does nothing: what it ensures is proved. docs/least-solution.md goes through the first.
+//! The functions here do nothing; only what they ensure matters. docs/least-solution.md explains the first.
 #![tactic(auto)]
 
 mod worked;

@@ -9,19 +9,16 @@ ghost use Rattle.example_streams.specs.Endless.{EndlessLoop};
 use kpn_laws::least_solution;
 use kpn_streams::{solving, standard_functions};
 
-/// Ghost lemma: what five networks of examples/ compute, whatever numbers arrive and whatever
-/// capacities their channels begin with.
+/// Ghost lemma: what five networks of examples/ compute, for any numbers that arrive and any starting capacities.
 ///
-/// `running_sums`: the sums so far, modulo 2^64; `sums`: at each place of these stands the sum of the
-/// numbers up to there; `table`: how the equations are solved for 1, 2 and 3, step by step. `moving_sum`:
-/// the sum of each number and the one before it. `sieve`: each of three stages lets through what its
-/// number doesn't divide, in order. `hamming`: each run has written to the sink the first of Hamming's
-/// numbers, in order, none twice and none left out, as long as no product is too great for 64 bits;
-/// `few_are_small`: which none is of the first 62. `hamming_at_end`: a run that terminates or ends in a
-/// deadlock has written as many as the gate lets through. `endless`: the streams of a loop that copies
-/// its own output for ever are endless.
+/// `running_sums`: the sums so far, modulo 2^64; `sums`: each is the sum of the numbers up to its place; `table`: how
+/// the equations are solved for 1, 2 and 3, step by step. `moving_sum`: the sum of each number and the one before it.
+/// `sieve`: each of three stages passes on what its number doesn't divide, in order. `hamming`: each run has written
+/// the first of Hamming's numbers, in order, none twice and none left out, while products fit into 64 bits;
+/// `few_are_small`: they do for the first 62. `hamming_at_end`: a run that terminates or deadlocks has written as
+/// many as the gate lets through. `endless`: a loop that copies its own output has endless streams.
 ///
-/// It uses nothing but what the three calls ensure.
+/// It uses only what the three calls ensure.
 pub fn worked_streams()
     ensures running_sums { RunningSums }
     ensures sums { SumsAreSums }

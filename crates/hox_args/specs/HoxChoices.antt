@@ -1,4 +1,4 @@
--- What the arguments of the command line ask for, and why they are refused.
+-- What the arguments ask for, and why they are rejected.
 use Rattle.std.specs.Prelude.{◌≡◌, ◌⊎◌, ◌<◌, ◌≤◌, ◌^◌, ℕ, Bool, false, codes, List, [], map, Option, Some, None, IfSome, if◌then◌else◌, option_map, unwrap_or}
 use Rattle.std.specs.Option.{option_map_or}
 use Rattle.std.specs.Str.{bytes_eq}
@@ -16,7 +16,7 @@ use Rattle.hox_args.specs.declared.arguments.WordsFault.{WordsFault}
 use Rattle.hox_args.specs.declared.arguments.WordsFault.TheVariants.{Parser, Workers, Budget, Memory}
 use Rattle.hox_args.specs.HoxCommand.{hox}
 
--- the text is read as a number of 64 bits
+-- the text is a number of 64 bits
 abbrev pub ReadsNumber : Text → ℕ → Type 0
 ReadsNumber text n = IsNumeral 10 (without_leading_plus text) × (digits_value 10 (without_leading_plus text) ≡ n) × (n < 2 ^ 64)
 
@@ -24,32 +24,27 @@ abbrev pub IsNumber : Text → Option ℕ → Type 0
 IsNumber text (Some n) = ReadsNumber text n
 IsNumber text None = (n : ℕ) → ReadsNumber text n → ⊥
 
--- the budget that a text asks for, if there is a text
+-- the budget of a text, if there is a text
 abbrev pub BudgetFrom : Option Text → Option ℕ → Type 0
 BudgetFrom None budget = budget ≡ None
 BudgetFrom (Some text) None = ⊥
 BudgetFrom (Some text) (Some n) = ReadsNumber text n
 
--- the text is no budget
 abbrev pub IsRefusedBudget : Option Text → Type 0
 IsRefusedBudget None = ⊥
 IsRefusedBudget (Some text) = IsNumber text None
 
--- all texts of an option
 abbrev pub texts_of : Text → List Row → List Text
 texts_of id rows = unwrap_or (all_of id rows) []
 
--- a flag is given
 abbrev pub is_given : Text → List Row → Bool
 is_given id rows = option_map_or (λ t. bytes_eq t (codes "true")) (first_of id rows) false
 
--- what the entries of `check` ask for
 pub record IsCheckOf (rows : List Row) (check : CheckChoice) : Type 0 where
   pub file : option_map (λ s. s.now) check.file ≡ first_of (codes "file") rows
   pub tokens : map (λ s. s.now) check.tokens.items ≡ texts_of (codes "tokens") rows
   pub formats : map (λ s. s.now) check.formats.items ≡ texts_of (codes "format") rows
 
--- what the entries of `run` ask for
 pub record IsRunOf (rows : List Row) (run : RunChoice) : Type 0 where
   pub file : option_map (λ s. s.now) run.file ≡ first_of (codes "file") rows
   pub tokens : map (λ s. s.now) run.tokens.items ≡ texts_of (codes "tokens") rows
@@ -62,7 +57,7 @@ pub record IsRunOf (rows : List Row) (run : RunChoice) : Type 0 where
   pub progress : run.progress ≡ is_given (codes "progress") rows
   pub quiet : run.quiet ≡ is_given (codes "quiet") rows
 
--- what the entries of `draw` ask for: the number of workers is read in any case, and is that of the run, if there is to be one
+-- the number of workers is parsed in any case, and used if there is a run
 pub record IsDrawOf (rows : List Row) (draw : DrawChoice) : Type 0 where
   pub file : option_map (λ s. s.now) draw.file ≡ first_of (codes "file") rows
   pub tokens : map (λ s. s.now) draw.tokens.items ≡ texts_of (codes "tokens") rows
@@ -72,7 +67,6 @@ pub record IsDrawOf (rows : List Row) (draw : DrawChoice) : Type 0 where
   pub read : WorkersFrom (first_of (codes "workers") rows) count
   pub workers : draw.workers ≡ (if is_given (codes "run") rows then Some count else None)
 
--- what the entries of `stream` ask for
 pub record IsStreamOf (rows : List Row) (stream : StreamChoice) : Type 0 where
   pub file : option_map (λ s. s.now) stream.file ≡ first_of (codes "file") rows
   pub inputs : map (λ s. s.now) stream.inputs.items ≡ texts_of (codes "in") rows
@@ -81,7 +75,7 @@ pub record IsStreamOf (rows : List Row) (stream : StreamChoice) : Type 0 where
   pub unsigned : map (λ s. s.now) stream.unsigned.items ≡ texts_of (codes "unsigned") rows
   pub quiet : stream.quiet ≡ is_given (codes "quiet") rows
 
--- the choice is what a command and its entries ask for
+-- the choice is that of a subcommand and its entries
 abbrev pub IsHoxChoiceOf : Option (Text × List Row) → Choice → Type 0
 IsHoxChoiceOf None choice = ⊥
 IsHoxChoiceOf (Some p) (Check check) = (p.0 ≡ codes "check") × IsCheckOf p.1 check
@@ -89,14 +83,13 @@ IsHoxChoiceOf (Some p) (Run run) = (p.0 ≡ codes "run") × IsRunOf p.1 run
 IsHoxChoiceOf (Some p) (Draw draw) = (p.0 ≡ codes "draw") × IsDrawOf p.1 draw
 IsHoxChoiceOf (Some p) (Stream stream) = (p.0 ≡ codes "stream") × IsStreamOf p.1 stream
 
--- the workers of a run are 1 to 16
+-- a run has 1 to 16 workers
 abbrev pub HasFewHoxWorkers : Choice → Type 0
 HasFewHoxWorkers (Check check) = Unit {0}
 HasFewHoxWorkers (Run run) = (1 ≤ run.workers) × (run.workers ≤ 16)
 HasFewHoxWorkers (Draw draw) = IfSome draw.workers (λ n. (1 ≤ n) × (n ≤ 16))
 HasFewHoxWorkers (Stream stream) = Unit {0}
 
--- the name is that of a subcommand
 abbrev pub IsSubcommand : Text → Type 0
 IsSubcommand name = (name ≡ codes "check") ⊎ ((name ≡ codes "run") ⊎ ((name ≡ codes "draw") ⊎ (name ≡ codes "stream")))
 
@@ -107,7 +100,7 @@ AreHoxTaken words = fault_of hox words ≡ []
 abbrev pub IsHoxChoice : List Text → Choice → Type 0
 IsHoxChoice words choice = AreHoxTaken words × IsHoxChoiceOf (subcommand_of hox words) choice
 
--- the text of `--workers` is no number of workers, or that of `--budget` no number, or memory was refused
+-- the text of `--workers` is no number of workers, or that of `--budget` no number; or out of memory
 abbrev pub IsRunFault : List Row → WordsFault → Type 0
 IsRunFault rows (Parser e) = ⊥
 IsRunFault rows Workers = IsRefusedWorkers (first_of (codes "workers") rows)
@@ -118,14 +111,14 @@ abbrev pub IsFaultIn : Option (Text × List Row) → WordsFault → Type 0
 IsFaultIn None fault = ⊥
 IsFaultIn (Some p) fault = IsRunFault p.1 fault
 
--- the command line refuses the arguments with this kind of error, or memory was refused; or it accepts them, and a text of an
--- option is refused
+-- the command line rejects the arguments with this kind of error; or out of memory; or it accepts them, and
+-- rejects the text of an option
 abbrev pub IsHoxFault : List Text → WordsFault → Type 0
 IsHoxFault words (Parser e) = HasKind (fault_of hox words) e
 IsHoxFault words Memory = Unit {0}
 IsHoxFault words fault = AreHoxTaken words × IsFaultIn (subcommand_of hox words) fault
 
--- the arguments ask for the help or the version
+-- the arguments ask for help or the version
 abbrev pub asks_for_hox_help : WordsFault → Bool
 asks_for_hox_help (Parser e) = is_text_asked_for (kind_of e)
 asks_for_hox_help _ = false

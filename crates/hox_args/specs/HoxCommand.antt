@@ -1,9 +1,9 @@
--- The command line of the program: `hox check`, `hox run`, `hox draw` and `hox stream`, each on a FILE, with their options.
+-- The command line: `hox check`, `hox run`, `hox draw` and `hox stream`, each on a FILE, with their options.
 use Rattle.std.specs.Prelude.{true, ℕ, List, codes, Some}
 use Rattle.clap.specs.Words.{App, Rule, new_app, new_rule, with_rule, with_subcommand}
 use Rattle.clap.specs.declared.builder.action.ArgAction.TheVariants.{Append, SetTrue}
 
--- an option with a value, `--name VALUE`; one that may be given again; and a flag, `--name`
+-- an option `--name VALUE`; a repeatable one; and a flag `--name`
 abbrev pub option_rule : List ℕ → Rule
 option_rule name = record (new_rule name) { long = Some name; value_names = 1 }
 
@@ -13,14 +13,14 @@ list_rule name = record (new_rule name) { long = Some name; action = Some Append
 abbrev pub flag_rule : List ℕ → Rule
 flag_rule name = record (new_rule name) { long = Some name; action = Some SetTrue }
 
--- it has no name of its own, so it is a positional argument
+-- a positional argument, since it has no name of its own
 abbrev pub hox_file_rule : Rule
 hox_file_rule = record (new_rule (codes "file")) { value_names = 1 }
 
 abbrev pub hox_check_command : App
 hox_check_command = with_rule (with_rule (with_rule (new_app (codes "check")) (list_rule (codes "tokens"))) (list_rule (codes "format"))) hox_file_rule
 
--- `run` with its options on files and streams; with those on the budget and on workers too; and with all
+-- `run` with its options on files and streams; also with those on the budget and workers; and with all
 abbrev pub hox_run_streams : App
 hox_run_streams =
     let files = with_rule (with_rule (new_app (codes "run")) (list_rule (codes "tokens"))) (list_rule (codes "out")) in
@@ -44,7 +44,7 @@ hox_stream_command =
     let files = with_rule (with_rule (new_app (codes "stream")) (list_rule (codes "in"))) (list_rule (codes "out")) in
     with_rule (with_rule (with_rule (with_rule files (list_rule (codes "format"))) (list_rule (codes "unsigned"))) (flag_rule (codes "quiet"))) hox_file_rule
 
--- it has a version, wants a subcommand, and has none called `help`
+-- it has a version, requires a subcommand, and has none called `help`
 abbrev pub bare_hox : App
 bare_hox = let a = new_app (codes "hox") in record a { top = record a.top { has_version = true; disable_help_subcommand = true; subcommand_required = true } }
 

@@ -1,10 +1,10 @@
--- The text for the user of a fault of the arguments.
+-- The user's text for a fault of the arguments.
 use Rattle.std.specs.Prelude.{codes, Option, Some, None}
 use Rattle.clap.specs.Words.{Text}
 use Rattle.hox_args.specs.declared.arguments.WordsFault.{WordsFault}
 use Rattle.hox_args.specs.declared.arguments.WordsFault.TheVariants.{Parser, Workers, Budget, Memory}
 
--- the text for the user, if it is not clap's own
+-- the text, if it is not clap's own
 abbrev pub text_of_hox_fault : WordsFault → Option Text
 text_of_hox_fault (Parser e) = None
 text_of_hox_fault Workers = Some (codes "error: --workers takes a number from 1 to 16\n\nFor more information, try 'hox run --help'.\n")

@@ -1,4 +1,4 @@
-//! The arguments of the command line.
+//! Parses the command line's arguments.
 ghost use Rattle.std.specs.Prelude.{◌≡◌, ◌==◌, ◌<◌, ◌≤◌, Some, None, IfOk, IfErr, MatchOption, length, map, option_map, codes, false, if◌then◌else◌};
 ghost use Rattle.std.specs.Option.{option_map_or};
 ghost use Rattle.std.specs.List.{after_first, before_first, position_or_len};
@@ -17,15 +17,14 @@ use kpn_picture::Direction;
 use std::alloc::Global;
 use std::{error, fmt};
 
-/// The greatest number of workers of a run.
+/// The greatest number of workers.
 pub const MAX_WORKERS: usize = 16;
 
-/// A run that the arguments ask for: the file of the description, or standard input if it is absent or `-`;
-/// which files have the first tokens of which channels, and to which files which channels are written, each
-/// as `CHANNEL=FILE`; how the files of which channels have tokens, each as `CHANNEL=FORMAT`; the channels whose
-/// streams the report has; the channels whose words are written unsigned, or `all`; the budget in place of that of
-/// the description; the number of workers, 1 to [`MAX_WORKERS`]; whether it is shown how far the run is, also where
-/// standard error is no terminal; and whether no report is wanted.
+/// The arguments of `hox run`: the description's file (standard input if absent or `-`); the token files and
+/// the output files of channels, as `CHANNEL=FILE`; the formats of files, as `CHANNEL=FORMAT`; the channels
+/// whose streams the report shows; the channels whose words are unsigned, or `all`; the budget that overrides
+/// the description's; the number of workers, 1 to [`MAX_WORKERS`]; whether to show progress even if standard
+/// error is no terminal; and whether to write no report.
 #[derive(Debug, Drop)]
 pub struct RunChoice<'a> {
     pub file: Option<&'a str>,
@@ -40,10 +39,9 @@ pub struct RunChoice<'a> {
     pub quiet: bool,
 }
 
-/// A picture that the arguments ask for: the file of the description, or standard input if it is absent or
-/// `-`; which files have the first tokens of which channels, each as `CHANNEL=FILE`, and how, each as
-/// `CHANNEL=FORMAT`; where the channels lead; and if the network is drawn as a run left it, by how many workers, 1 to
-/// [`MAX_WORKERS`].
+/// The arguments of `hox draw`: the description's file (standard input if absent or `-`); the token files of
+/// channels, as `CHANNEL=FILE`, and their formats, as `CHANNEL=FORMAT`; the direction of the channels; and
+/// the number of workers, 1 to [`MAX_WORKERS`], if the network is drawn as a run left it.
 #[derive(Debug, Drop)]
 pub struct DrawChoice<'a> {
     pub file: Option<&'a str>,
@@ -53,8 +51,8 @@ pub struct DrawChoice<'a> {
     pub workers: Option<usize>,
 }
 
-/// A check that the arguments ask for: the file of the description, or standard input if it is absent or `-`; and
-/// which files have the first tokens of which channels, each as `CHANNEL=FILE`, and how, each as `CHANNEL=FORMAT`.
+/// The arguments of `hox check`: the description's file (standard input if absent or `-`); the token files of
+/// channels, as `CHANNEL=FILE`, and their formats, as `CHANNEL=FORMAT`.
 #[derive(Debug, Drop)]
 pub struct CheckChoice<'a> {
     pub file: Option<&'a str>,
@@ -62,10 +60,9 @@ pub struct CheckChoice<'a> {
     pub formats: Vec<&'a str>,
 }
 
-/// A run on tokens that come, which the arguments ask for: the file of the description, or standard input if
-/// it is absent or `-`; from which files tokens come into which channels, and to which files which channels
-/// are written, each as `CHANNEL=FILE`; how these files have tokens, each as `CHANNEL=FORMAT`; the channels whose
-/// words are written unsigned, or `all`; and whether no report is wanted.
+/// The arguments of `hox stream`: the description's file (standard input if absent or `-`); the input files
+/// and output files of channels, as `CHANNEL=FILE`; the formats of files, as `CHANNEL=FORMAT`; the channels
+/// whose words are unsigned, or `all`; and whether to write no report.
 #[derive(Debug, Drop)]
 pub struct StreamChoice<'a> {
     pub file: Option<&'a str>,
@@ -76,36 +73,35 @@ pub struct StreamChoice<'a> {
     pub quiet: bool,
 }
 
-/// What the arguments ask for.
+/// A subcommand and its arguments.
 #[derive(Debug, Drop)]
 pub enum Choice<'a> {
-    /// `hox check`: whether the description in this file, with the tokens of these files, is a network.
+    /// `hox check`: check that the description, with tokens from files, is a network.
     Check(CheckChoice<'a>),
-    /// `hox run`: the run of the network.
+    /// `hox run`: run the network.
     Run(RunChoice<'a>),
-    /// `hox draw`: the picture of the network.
+    /// `hox draw`: draw the network.
     Draw(DrawChoice<'a>),
-    /// `hox stream`: the run of the network on tokens that come.
+    /// `hox stream`: run the network on tokens as they come.
     Stream(StreamChoice<'a>),
 }
 
-/// Why the arguments give no choice. Its `Display` is the text for the user, which ends a line.
+/// Why the arguments give no choice. `Display` gives the user's text, which ends a line.
 #[derive(Debug, Drop)]
 pub enum WordsFault {
-    /// The command line refuses the arguments, or they ask for help or the version, or memory was
-    /// refused.
+    /// The command line rejects the arguments, or they ask for help or the version, or out of memory.
     Parser(clap::Error),
     /// The text of `--workers` is no number from 1 to `MAX_WORKERS`.
     Workers,
     /// The text of `--budget` is no number of 64 bits.
     Budget,
-    /// Memory was refused.
+    /// Out of memory.
     Memory,
 }
 
 impl WordsFault {
-    /// Returns whether the arguments ask for help or for the version. Their text then goes to standard
-    /// output, otherwise to standard error.
+    /// Returns whether the arguments ask for help or the version. That text goes to standard output, all
+    /// others to standard error.
     pub fn asks_for_help(&self) -> bool
         ensures { result ≡ asks_for_hox_help self.now }
     {
@@ -118,7 +114,7 @@ impl WordsFault {
         }
     }
 
-    /// Returns `Success` if help or the version was asked for, and otherwise `WrongArguments`.
+    /// Returns `Success` if the arguments ask for help or the version, else `WrongArguments`.
     pub fn status(&self) -> Status
         ensures { result ≡ (if asks_for_hox_help self.now then Status.Success else Status.WrongArguments) }
     {
@@ -151,7 +147,7 @@ impl fmt::Display for WordsFault {
 
 impl error::Error for WordsFault {}
 
-/// Reads what the arguments ask for. The first of them is the program's name.
+/// Parses the arguments. The first is the program's name.
 ///
 /// Errors: see [`WordsFault`].
 pub fn read_words<'a>(alloc: Global, words: &'a [&'a str]) -> Result<Choice<'a>, WordsFault>
@@ -166,15 +162,13 @@ pub fn read_words<'a>(alloc: Global, words: &'a [&'a str]) -> Result<Choice<'a>,
     choice_of(alloc, name, entries)
 }
 
-/// Returns the channel and the file of a text `CHANNEL=FILE`: what stands before and after its first `=`;
-/// `None` if it has none.
+/// Splits a text `CHANNEL=FILE` at its first `=`; returns `None` if it has none.
 pub fn channel_and_file(text: &str) -> Option<(&str, &str)>
     ensures { MatchOption result (position_or_len (λ b. b == 61) text.now ≡ length text.now) (λ p. (p.0.now ≡ before_first (λ b. b == 61) text.now) × (p.1.now ≡ after_first (λ b. b == 61) text.now) × (position_or_len (λ b. b == 61) text.now < length text.now)) }
 {
     text.split_once('=')
 }
 
-/// The choice that a subcommand and its entries ask for.
 fn choice_of<'a>(
     alloc: Global,
     name: &str,
@@ -194,7 +188,6 @@ fn choice_of<'a>(
     }
 }
 
-/// The choice that the entries of `check` ask for.
 fn check_choice<'a>(alloc: Global, entries: &ArgMatches<'a>) -> Result<Choice<'a>, WordsFault>
     ensures ok { IfOk result (IsHoxChoiceOf (Some (codes "check", rows_of (found_of entries.now)))) }
     ensures few { IfOk result HasFewHoxWorkers }
@@ -210,7 +203,6 @@ fn check_choice<'a>(alloc: Global, entries: &ArgMatches<'a>) -> Result<Choice<'a
     }))
 }
 
-/// The choice that the entries of `run` ask for.
 fn run_choice<'a>(alloc: Global, entries: &ArgMatches<'a>) -> Result<Choice<'a>, WordsFault>
     ensures ok { IfOk result (IsHoxChoiceOf (Some (codes "run", rows_of (found_of entries.now)))) }
     ensures few { IfOk result HasFewHoxWorkers }
@@ -240,7 +232,6 @@ fn run_choice<'a>(alloc: Global, entries: &ArgMatches<'a>) -> Result<Choice<'a>,
     }))
 }
 
-/// The choice that the entries of `draw` ask for.
 fn draw_choice<'a>(alloc: Global, entries: &ArgMatches<'a>) -> Result<Choice<'a>, WordsFault>
     ensures ok { IfOk result (IsHoxChoiceOf (Some (codes "draw", rows_of (found_of entries.now)))) }
     ensures few { IfOk result HasFewHoxWorkers }
@@ -261,7 +252,6 @@ fn draw_choice<'a>(alloc: Global, entries: &ArgMatches<'a>) -> Result<Choice<'a>
     }))
 }
 
-/// The choice that the entries of `stream` ask for.
 fn stream_choice<'a>(alloc: Global, entries: &ArgMatches<'a>) -> Result<Choice<'a>, WordsFault>
     ensures ok { IfOk result (IsHoxChoiceOf (Some (codes "stream", rows_of (found_of entries.now)))) }
     ensures few { IfOk result HasFewHoxWorkers }
@@ -281,7 +271,6 @@ fn stream_choice<'a>(alloc: Global, entries: &ArgMatches<'a>) -> Result<Choice<'
     }))
 }
 
-/// The direction, by whether that is to be down.
 fn direction_of(is_down: bool) -> Direction
     ensures { result ≡ (if is_down then Down else Right) }
 {
@@ -292,21 +281,18 @@ fn direction_of(is_down: bool) -> Direction
     }
 }
 
-/// The number of workers of a run, if one is asked for.
 fn asked_for(is_run: bool, count: usize) -> Option<usize>
     ensures { result ≡ (if is_run then Some count else None) }
 {
     if is_run { Some(count) } else { None }
 }
 
-/// Whether a flag is given.
 fn has_flag(entries: &ArgMatches<'_>, id: &str) -> bool
     ensures { result ≡ is_given id.now (rows_of (found_of entries.now)) }
 {
     is_true(text_in(entries, id))
 }
 
-/// Whether the text of a flag says that it was given.
 fn is_true(text: Option<&str>) -> bool
     ensures { result ≡ option_map_or (λ t. bytes_eq t.now (codes "true")) text.entry false }
 {
@@ -316,7 +302,7 @@ fn is_true(text: Option<&str>) -> bool
     }
 }
 
-/// The number of workers that a text asks for; 1 if there is no text.
+/// Parses the number of workers; 1 if there is no text.
 fn workers_in(text: Option<&str>) -> Result<usize, WordsFault>
     ensures ok { IfOk result (WorkersFrom (option_map (λ s. s.now) text.entry)) }
     ensures few { IfOk result (λ n. (1 ≤ n) × (n ≤ 16)) }
@@ -328,7 +314,6 @@ fn workers_in(text: Option<&str>) -> Result<usize, WordsFault>
     }
 }
 
-/// Reads a text as a number of workers; `None` if it is none.
 fn workers_of(text: &str) -> Option<usize>
     ensures { IsWorkers text.now result }
 {
@@ -338,7 +323,6 @@ fn workers_of(text: &str) -> Option<usize>
     }
 }
 
-/// The budget that a text asks for, if there is a text.
 fn budget_in(text: Option<&str>) -> Result<Option<u64>, WordsFault>
     ensures ok { IfOk result (BudgetFrom (option_map (λ s. s.now) text.entry)) }
     ensures budget { IfErr result (λ e. (e ≡ WordsFault.Budget) × IsRefusedBudget (option_map (λ s. s.now) text.entry)) }
@@ -352,21 +336,18 @@ fn budget_in(text: Option<&str>) -> Result<Option<u64>, WordsFault>
     }
 }
 
-/// Reads a text as a number; `None` if it is none.
 fn number_of(text: &str) -> Option<u64>
     ensures { IsNumber text.now result }
 {
     text.parse::<u64>().ok()
 }
 
-/// The first text of an option.
 fn text_in<'a>(entries: &ArgMatches<'a>, id: &str) -> Option<&'a str>
     ensures { option_map (λ s. s.now) result ≡ first_of id.now (rows_of (found_of entries.now)) }
 {
     entries.get_str(id)
 }
 
-/// All texts of an option.
 fn texts_in<'a>(
     alloc: Global,
     entries: &ArgMatches<'a>,
@@ -384,14 +365,12 @@ fn texts_in<'a>(
     }
 }
 
-/// The subcommand and its entries.
 fn subcommand_in<'a, 'b>(matches: &'b ArgMatches<'a>) -> Option<(&'a str, &'b ArgMatches<'a>)>
     ensures { option_map (λ p. (p.0.now, rows_of (found_of p.1.now))) result ≡ subcommand_rows_of matches.now }
 {
     matches.subcommand()
 }
 
-/// Parses the arguments.
 fn matches_of<'a>(alloc: Global, words: &'a [&'a str]) -> Result<ArgMatches<'a>, WordsFault>
     ensures taken { IfOk result (λ m. AreHoxTaken (map (λ w. w.now) words.entry.now)) }
     ensures matches { IfOk result (λ m. subcommand_rows_of m ≡ subcommand_of hox (map (λ w. w.now) words.entry.now)) }

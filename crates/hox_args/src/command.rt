@@ -9,7 +9,6 @@ use clap::{Arg, ArgAction, Command};
 use kpn_args::{with_arg, with_subcommand};
 use std::alloc::{AllocError, Global};
 
-/// The command line of the program.
 pub(crate) fn command_line<'a>(alloc: Global) -> Result<Command<'a>, AllocError>
     ensures { Makes hox result }
 {
@@ -17,7 +16,7 @@ pub(crate) fn command_line<'a>(alloc: Global) -> Result<Command<'a>, AllocError>
     with_subcommand(command, stream(alloc))
 }
 
-/// The command line with its first two subcommands.
+/// Adds the first two subcommands.
 fn check_and_run<'a>(alloc: Global) -> Result<Command<'a>, AllocError>
     ensures { Makes hox_two result }
 {
@@ -25,7 +24,7 @@ fn check_and_run<'a>(alloc: Global) -> Result<Command<'a>, AllocError>
     with_subcommand(command, run(alloc))
 }
 
-/// The command line without subcommands.
+/// Makes the command line without subcommands.
 fn bare_hox<'a>(alloc: Global) -> Command<'a>
     ensures { app_of result ≡ bare_hox }
 {
@@ -60,7 +59,7 @@ fn run<'a>(alloc: Global) -> Result<Command<'a>, AllocError>
     with_arg(run, file(alloc))
 }
 
-/// The subcommand `run` with its options on files and streams, on the budget and on workers.
+/// Makes `run` with its options on files, streams, the budget and workers.
 fn run_bounds<'a>(alloc: Global) -> Result<Command<'a>, AllocError>
     ensures { MakesLocal hox_run_bounds result }
 {
@@ -70,7 +69,7 @@ fn run_bounds<'a>(alloc: Global) -> Result<Command<'a>, AllocError>
     with_arg(run, workers(alloc))
 }
 
-/// The subcommand `run` with its options on files and streams.
+/// Makes `run` with its options on files and streams.
 fn run_streams<'a>(alloc: Global) -> Result<Command<'a>, AllocError>
     ensures { MakesLocal hox_run_streams result }
 {
@@ -97,7 +96,7 @@ fn draw<'a>(alloc: Global) -> Result<Command<'a>, AllocError>
     with_arg(draw, file(alloc))
 }
 
-/// The subcommand `draw` with its flags.
+/// Makes `draw` with its flags.
 fn draw_flags<'a>(alloc: Global) -> Result<Command<'a>, AllocError>
     ensures { MakesLocal hox_draw_flags result }
 {
@@ -132,7 +131,7 @@ fn stream<'a>(alloc: Global) -> Result<Command<'a>, AllocError>
     with_arg(stream, file(alloc))
 }
 
-/// A subcommand without arguments.
+/// Makes a subcommand without arguments.
 fn bare<'a>(alloc: Global, name: &'a str, about: &'a str, after_help: &'a str) -> Command<'a>
     ensures { IsLocal (new_app name.now) result }
 {
@@ -191,7 +190,7 @@ fn quiet<'a>(alloc: Global) -> Arg<'a>
     flag(alloc, "quiet", "Writes no report")
 }
 
-/// An option `--name VALUE` that may be given again.
+/// Makes a repeatable option `--name VALUE`.
 fn list<'a>(alloc: Global, name: &'a str, value: &'a str, help: &'a str) -> Arg<'a>
     ensures rule { rule_of result ≡ list_rule name.now }
     ensures local { result.global ≡ false }
@@ -203,7 +202,7 @@ fn list<'a>(alloc: Global, name: &'a str, value: &'a str, help: &'a str) -> Arg<
         .help(help)
 }
 
-/// An option `--name VALUE`.
+/// Makes an option `--name VALUE`.
 fn option<'a>(alloc: Global, name: &'a str, value: &'a str, help: &'a str) -> Arg<'a>
     ensures rule { rule_of result ≡ option_rule name.now }
     ensures local { result.global ≡ false }
@@ -214,7 +213,7 @@ fn option<'a>(alloc: Global, name: &'a str, value: &'a str, help: &'a str) -> Ar
         .help(help)
 }
 
-/// A flag `--name`.
+/// Makes a flag `--name`.
 fn flag<'a>(alloc: Global, name: &'a str, help: &'a str) -> Arg<'a>
     ensures rule { rule_of result ≡ flag_rule name.now }
     ensures local { result.global ≡ false }

@@ -1,6 +1,6 @@
-//! The texts with which help ends.
+//! The ends of help texts.
 
-/// How the help ends: an example, and the statuses with which the program exits.
+/// The end of `hox`'s help: an example, and the exit statuses.
 pub(crate) const STATUSES: &str = "\
 Example, in which channel x gets a token of each line of noisy.txt and channel y is written to smooth.txt:
   hox run low_pass.toml --tokens x=noisy.txt --out y=smooth.txt
@@ -17,7 +17,7 @@ Exit status:
   8  internal error: a worker's answer was rejected; the run was abandoned
 ";
 
-/// How a description and a file of tokens are written, as the help of the subcommands tells it.
+/// The syntax of descriptions and token files, for the help of the subcommands.
 pub const KINDS_AND_FILES: &str = "\
 A file of tokens has one a line: a word in decimal, as 21 or -21, or in hexadecimal after 0x, from -2^63 to
 2^64 - 1; a flag as true or false. A word has 64 bits in two's complement: -1 and 18446744073709551615 are the same
@@ -89,7 +89,7 @@ Signed: a word is a number in two's complement, from 2^63 on itself less 2^64. V
 of scale, and LO and HI of clip, may be below 0.
 ";
 
-/// What the help of `draw` says of pictures.
+/// Pictures, for the help of `draw`.
 pub(crate) const PICTURES: &str = "\
 The picture is a text for Graphviz:
   hox draw --run examples/parks.toml | dot -Tsvg > parks.svg
@@ -97,7 +97,7 @@ Where nothing else stands at a channel, it carries words, has capacity 1 and is 
 however the run ended. How a description and a file of tokens are written, hox run --help says.
 ";
 
-/// What the help of `stream` says of streams.
+/// Streams, for the help of `stream`.
 pub(crate) const STREAMS: &str = "\
 Example, in a pipe:
   generator | hox stream low_pass.toml --in x=- --out y=- | plot

@@ -1,4 +1,4 @@
--- What is drawn of a network, of a run of it, and of a description.
+-- The pictures of a network, of a run and of a description.
 use Rattle.std.specs.Prelude.{◌≡◌, ℕ, Bool, true, false, List, [], Option, Some, None, Result, MatchResult, String, string_bytes, if◌then◌else◌}
 use Rattle.kpn_model.specs.declared.history.Entry.{Entry}
 use Rattle.kpn_model.specs.declared.history.End.{End}
@@ -14,23 +14,22 @@ use Rattle.hox_network.specs.declared.request.Request.{Request}
 use Rattle.hox_network.specs.declared.request.Fault.{Fault}
 use Rattle.hox_network.specs.Preparing.{IsFault, Prepares}
 
--- a network of this family, whose kinds have these titles, drawn in this direction
+-- the family of a network, the titles of its kinds, and the direction
 module _ (kinds : Family) (title : ℕ → List ℕ × ℕ) (direction : Direction) where
-  -- the picture of a network after a run, from the run's digest
   abbrev pub digest_picture : Network → Digest → List ℕ
   digest_picture net d = picture direction title net (Some d.cause) d.places d.capacities d.rests
 
-  -- the picture of a run to M that ended for this cause; if its budget was spent or memory was refused, it shows only the cause
+  -- the picture of a run to M that ended for this cause; if the budget was spent or memory ran out, only the cause
   abbrev pub run_picture : Network → End → List Entry → State → List ℕ
   run_picture net cause E M = if has_report cause then digest_picture net (digest kinds net cause E M) else picture direction title net (Some cause) [] [] []
 
-  -- the picture of a report: with its detail, if there is one
+  -- the picture of a report, with its detail, if any
   abbrev pub report_picture : Network → End → Option Detail → List ℕ
   report_picture net end None = picture direction title net (Some end) [] [] []
   report_picture net end (Some d) = picture direction title net (Some end) d.places d.capacities d.rests
 
-  -- a run from the start ended for a cause that justifies its end, and this is its picture; if it came to its own end, it is the
-  -- picture of each run that is over
+  -- a run from the start ended for a justified cause, and this is its picture; if it ended by itself, it is
+  -- the picture of each run that is over
   pub record DrawsRun (net : Network) (text : List ℕ) : Type 0 where
     pub history : List Entry
     pub state : State
@@ -40,7 +39,6 @@ module _ (kinds : Family) (title : ℕ → List ℕ × ℕ) (direction : Directi
     pub text_is : text ≡ run_picture net cause history state
     pub settled : has_report cause ≡ true → (F : List Entry) (N : State) (b : End) → IsFinal kinds net F N b → text ≡ digest_picture net (digest kinds net b F N)
 
-  -- the network itself is drawn
   abbrev pub DrawsNet : Network → List ℕ → Type 0
   DrawsNet net text = text ≡ picture direction title net None [] [] []
 
@@ -49,12 +47,12 @@ module _ (kinds : Family) (title : ℕ → List ℕ × ℕ) (direction : Directi
   Draws false net text = DrawsNet net text
   Draws true net text = DrawsRun net text
 
-  -- the network of a description is prepared as the request wants it, and this is drawn of it
+  -- the network is prepared as requested, and this is its picture
   pub record DrawsPrepared (is_run : Bool) (request : Request) (net : Network) (text : List ℕ) : Type 0 where
     pub other : Network
     pub prepares : Prepares request net other
     pub draws : Draws is_run other text
 
-  -- what comes of a network that was loaded: its picture, or why there is none
+  -- the result of a loaded network: its picture, or a fault
   abbrev pub GivesPicture : {Z : Type 0} → Bool → Request → Network → Result (String Z) Fault → Type 0
   GivesPicture is_run request net result = MatchResult result (λ picture. DrawsPrepared is_run request net (string_bytes picture)) (IsFault request net)

@@ -1,4 +1,4 @@
-//! From a description and files of tokens to a picture.
+//! Draws the network of a description.
 ghost use Rattle.std.specs.Prelude.{◌≡◌, ◌+◌, IfOk, IfErr, string_bytes};
 ghost use Rattle.kpn_model.specs.Network.{Network as NetworkV};
 ghost use Rattle.kpn_model.specs.Families.{family};
@@ -17,12 +17,10 @@ use std::rt::Clock;
 use std::sync::Wait;
 use std::thread::Threads;
 
-/// Reads a description from the source, gives its channels the tokens of the request's files and its
-/// network the request's budget, and returns the picture of the network: as it is, or if `is_run` as a run by
-/// the request's 1 to 16 workers left it. Its channels lead in the direction.
+/// Reads a description, sets the start tokens of the request's files and the request's budget, and returns the
+/// picture of the network: as it is, or, if `is_run`, as a run with the request's 1 to 16 workers left it.
 ///
-/// Errors: see [`Fault`]; `NoShown` and `NoOutput` are none of them, and `Lost` only if several workers are
-/// asked for.
+/// Errors: see [`Fault`], except `NoShown` and `NoOutput`; `Lost` only with several workers.
 pub fn draw<K: Computes + Titled, I: Source, R: Wait + Clock + Threads + Sync>(
     rt: &R,
     alloc: Global,
@@ -42,7 +40,6 @@ pub fn draw<K: Computes + Titled, I: Source, R: Wait + Clock + Threads + Sync>(
     }
 }
 
-/// The picture of a network that was prepared.
 fn draw_prepared<K: Computes + Titled, R: Wait + Clock + Threads + Sync>(
     rt: &R,
     alloc: Global,
@@ -65,7 +62,6 @@ fn draw_prepared<K: Computes + Titled, R: Wait + Clock + Threads + Sync>(
     }
 }
 
-/// The picture of a network as it is.
 fn draw_net<K: Titled>(
     alloc: Global,
     net: &Net<K>,

@@ -1,5 +1,4 @@
-//! What `hox draw` does: the picture of a described network with tokens of files, as it is or as a run left
-//! it, from the bytes of the description to the text of the picture.
+//! The command `hox draw`, from the bytes of a description to the text of a picture.
 #![tactic(auto)]
 
 mod drawing;

@@ -1,4 +1,4 @@
-//! Running a network, and drawing it as the run left it.
+//! Runs a network, and draws it as the run left it.
 ghost use Rattle.std.specs.Prelude.{◌≡◌, ◌<◌, ◌≤◌, Err, IfOk, IsSome, map, string_bytes};
 ghost use Rattle.kpn_model.specs.Families.{family};
 ghost use Rattle.hox_draw.specs.Drawing.{DrawsRun, report_picture};
@@ -17,11 +17,9 @@ use std::rt::Clock;
 use std::sync::Wait;
 use std::thread::Threads;
 
-/// Runs a network by 1 to 16 workers, and returns the picture of how the run left it, however it ended. A
-/// single worker is the calling thread.
-///
-/// Errors: `Memory` if memory was refused, before the run or for the picture; `Lost` if the machine refused
-/// an answer of one of several workers.
+/// Runs a network with 1 to 16 workers, and returns the picture of how the run left it, however it ended. A
+/// single worker is the calling thread. Errors: `Memory`: out of memory, before the run or for the picture.
+/// `Lost`: the machine rejected an answer of one of several workers.
 pub(crate) fn draw_run<K: Computes + Titled, R: Wait + Clock + Threads + Sync>(
     rt: &R,
     alloc: Global,
@@ -43,7 +41,6 @@ pub(crate) fn draw_run<K: Computes + Titled, R: Wait + Clock + Threads + Sync>(
     }
 }
 
-/// Runs a network in the calling thread, with a body for each process, and draws how that left it.
 fn draw_alone<K: Computes + Titled>(
     alloc: Global,
     net: Net<K>,
@@ -59,7 +56,6 @@ fn draw_alone<K: Computes + Titled>(
     picture_of_run(alloc, &machine.into_chronicle(), direction)
 }
 
-/// Runs a network by several workers, with a body for each process, and draws how that left it.
 fn draw_by_workers<K: Computes + Titled, R: Wait + Clock + Threads + Sync>(
     rt: &R,
     alloc: Global,
@@ -83,7 +79,6 @@ fn draw_by_workers<K: Computes + Titled, R: Wait + Clock + Threads + Sync>(
     }
 }
 
-/// The picture of a run that ended.
 fn picture_of_run<K: Titled>(
     alloc: Global,
     chronicle: &Chronicle<K>,
@@ -103,7 +98,6 @@ fn picture_of_run<K: Titled>(
     Ok(picture)
 }
 
-/// The picture of a report.
 fn picture_of_report<K: Titled>(
     alloc: Global,
     net: &Net<K>,

@@ -21,19 +21,19 @@ use Rattle.hox_files.specs.Files.{Effect, standard, wrote}
 use Rattle.hox_execute.specs.Reports.{IsNoted, Writes, rate_of, written_of}
 use Rattle.hox_files.specs.Requests.{IsAsked, IsUnasked, ServesFile, Want}
 
--- what comes of a network that was loaded: the text of its picture, or why there is none
+-- the result of drawing a loaded network: its picture, or a fault
 abbrev pub GivesDrawing : Family → (ℕ → List ℕ × ℕ) → Direction → Bool → Request → Network → Result (List ℕ) Fault → Type 0
 GivesDrawing kinds title direction is_run request net result = MatchResult result (DrawsPrepared kinds title direction is_run request net) (IsFault request net)
 
--- a family's names and ports; what each file holds, and which can't be used beside each other, if that is known; what is wanted; and
+-- a family's names and ports; the contents of each file and which names clash, if known; what is wanted; and
 -- the texts CHANNEL=FILE of tokens and of streams
 module _ (named : List ℕ → Option (ℕ × ℕ)) (signature : Card → Option Signature) (contents : List ℕ → Option (List ℕ)) (clash : List ℕ → Bool → List ℕ → Bool → Option Bool) (want : Want) (tokens outputs : List (List ℕ)) where
-  -- what is asked for is read, and this is what comes of the description and that
+  -- the request is read, and this is the result of the description and that request
   pub record Comes {X : Type 0} (gives : Request → Network → Result X Fault → Type 0) (asked : Asked) (result : Result X Fault) : Type 0 where
     pub is_asked : IsAsked contents clash want tokens outputs asked
     pub serves : ServesFile contents named signature (gives asked.request) want.file result
 
-  -- why nothing is done: what is asked for can't be read, or it is refused
+  -- why a command is not carried out: there is no request, or it fails
   abbrev pub IsStop : Stop → Type 0
   IsStop (Refused refusal) = (refusal.file.now ≡ want.file) × Comes GivesNet refusal.asked (Err refusal.fault)
   IsStop (NoPair option text) = IsUnasked contents clash want tokens outputs (NoPair option text)
@@ -44,9 +44,9 @@ module _ (named : List ℕ → Option (ℕ × ℕ)) (signature : Card → Option
   IsStop Memory = Unit {0}
   IsStop (Words fault) = ⊥
 
-  -- from what was done before to what was done after; whether it is known that no write fails
+  -- whether no write can fail; the effects before and after
   module _ (steady : Bool) (before after : Option (List Effect)) where
-    -- the network is run, and what is told of it is written; what it left unused and what each file has is noted
+    -- the network is run, its result is written, and the rest is noted
     pub record HasRun (kinds : Family) (ran : Ran) : Type 0 where
       pub asked : Asked
       pub told : Told
@@ -54,9 +54,8 @@ module _ (named : List ℕ → Option (ℕ × ℕ)) (signature : Card → Option
       pub comes : Comes (GivesRun kinds) asked (Ok told)
       pub writes : Writes told.status (written_of want.is_quiet (rate_of asked.request.tokens) asked.outputs.items told) steady before after ran.status
 
-    -- with this status
     module _ (status : Status) where
-      -- the description is a network, which is said
+      -- the description is a network, and that is written
       pub record HasChecked : Type 0 where
         pub asked : Asked
         pub net : Network

@@ -19,7 +19,7 @@ use Rattle.hox_execute.specs.Commands.{HasChecked, HasDrawn, HasRun, IsStop}
 use Rattle.hox_files.specs.Files.{Effect, standard}
 use Rattle.hox_files.specs.Requests.{Want}
 
--- the network of the description in this file, or on standard input
+-- what a command wants of the description in this file, or on standard input
 abbrev pub want_in : Option (List ℕ) → List (List ℕ) → ℕ → Want
 want_in file formats workers = record { file = unwrap_or file standard; workers = workers; budget = None; show = []; formats = formats; unsigned = []; is_quiet = false }
 
@@ -27,15 +27,15 @@ abbrev pub want_of_run : RunChoice → Want
 want_of_run run =
     record (want_in (option_map (λ s. s.now) run.file) (map (λ s. s.now) run.formats.items) run.workers) { budget = run.budget; show = map (λ s. s.now) run.show.items; unsigned = map (λ s. s.now) run.unsigned.items; is_quiet = run.quiet }
 
--- a network is drawn by one worker if it is drawn as it is
+-- a network drawn as it is has one worker
 abbrev pub want_of_draw : DrawChoice → Want
 want_of_draw draw = want_in (option_map (λ s. s.now) draw.file) (map (λ s. s.now) draw.formats.items) (unwrap_or draw.workers 1)
 
 abbrev pub want_of_check : CheckChoice → Want
 want_of_check check = want_in (option_map (λ s. s.now) check.file) (map (λ s. s.now) check.formats.items) 1
 
--- a family, its names and ports; what each file holds, and which can't be used beside each other, if that is known; whether it is known that no write fails; and what was done
--- before and after
+-- a family, its names and ports; the contents of each file and which names clash, if known; whether no write
+-- can fail; and the effects before and after
 module _ (kinds : Family) (named : List ℕ → Option (ℕ × ℕ)) (signature : Card → Option Signature) (contents : List ℕ → Option (List ℕ)) (clash : List ℕ → Bool → List ℕ → Bool → Option Bool) (steady : Bool) (before after : Option (List Effect)) where
   abbrev pub RunsChoice : RunChoice → RanV → Type 0
   RunsChoice run ran =
@@ -46,7 +46,7 @@ module _ (kinds : Family) (named : List ℕ → Option (ℕ × ℕ)) (signature 
     DrawsChoice draw status =
         HasDrawn named signature contents clash (want_of_draw draw) (map (λ s. s.now) draw.tokens.items) [] steady before after status kinds title draw.direction (is_some draw.workers)
 
-    -- what was chosen is done, or is left to be streamed, with nothing done
+    -- the choice is carried out, or left as a stream, with nothing done
     abbrev pub Does : Choice → Outcome → Type 0
     Does (Check check) (Exits status) = HasChecked named signature contents clash (want_of_check check) (map (λ s. s.now) check.tokens.items) [] steady before after status
     Does (Check check) (Ran ran) = ⊥
@@ -61,13 +61,12 @@ module _ (kinds : Family) (named : List ℕ → Option (ℕ × ℕ)) (signature 
     Does (Stream chosen) (Ran ran) = ⊥
     Does (Stream chosen) (Streams stream) = (stream ≡ chosen) × (after ≡ before)
 
-    -- the arguments are a choice, and it is done
+    -- the arguments are a choice, and it is carried out
     pub record Serves (words : List (List ℕ)) (outcome : Outcome) : Type 0 where
       pub choice : Choice
       pub chosen : IsHoxChoice words choice
       pub does : Does choice outcome
 
--- why what was chosen is not done
 module _ (named : List ℕ → Option (ℕ × ℕ)) (signature : Card → Option Signature) (contents : List ℕ → Option (List ℕ)) (clash : List ℕ → Bool → List ℕ → Bool → Option Bool) where
   abbrev pub IsRunStop : RunChoice → Stop → Type 0
   IsRunStop run stop = IsStop named signature contents clash (want_of_run run) (map (λ s. s.now) run.tokens.items) (map (λ s. s.now) run.outputs.items) stop
@@ -81,7 +80,7 @@ module _ (named : List ℕ → Option (ℕ × ℕ)) (signature : Card → Option
   IsStopIn (Draw draw) stop = IsDrawStop draw stop
   IsStopIn (Stream chosen) stop = ⊥
 
-  -- the arguments are refused, or they are a choice that is not done
+  -- the arguments are wrong, or they are a choice that is not carried out
   abbrev pub IsProgramStop : List (List ℕ) → Stop → Type 0
   IsProgramStop words (Words fault) = IsHoxFault words fault
   IsProgramStop words (Refused refusal) = (choice : Choice) × IsHoxChoice words choice × IsStopIn choice (Refused refusal)

@@ -23,11 +23,11 @@ use Rattle.hox_files.specs.Files.{Effect, GoOn, not_said, not_written, said, sta
 use Rattle.hox_run.specs.Telling.{fitting}
 use Rattle.hox_files.specs.Pairs.{channels_of, count_standard, firsts, group_in, is_alone, shared_in}
 
--- how many samples a second there are if nothing tells
+-- the samples per second if no file states them
 abbrev pub usual_rate : ℕ
 usual_rate = 44100
 
--- and how many the first tells that does
+-- the first stated number of samples per second
 abbrev pub first_rate : List (Option ℕ) → ℕ
 first_rate [] = usual_rate
 first_rate (None ∷ rates) = first_rate rates
@@ -36,17 +36,17 @@ first_rate (Some rate ∷ rates) = rate
 abbrev pub rate_of : List TokenFile → ℕ
 rate_of files = first_rate (map (λ (f : TokenFile). f.rate) files)
 
--- the tokens that go into a file, channel by channel
+-- the tokens of a file, channel by channel
 abbrev pub columns : List Pair → List StreamFile → List ColumnView
 columns [] files = []
 columns (p ∷ ps) [] = []
 columns (p ∷ ps) (file ∷ files) = record { decimals = decimals_of (form p.format); tokens = file.tokens } ∷ columns ps files
 
--- how several channels stand side by side in the file of a pair
+-- how channels are arranged in the file of a pair
 abbrev pub table_in : Pair → Table
 table_in pair = option_map_or (λ s. s.table) (shared_in pair) (Rows Comma)
 
--- the tokens of a channel alone as records, up to the first that does not fit; those of several as rows
+-- the tokens of a single channel as records, up to the first that does not fit; those of several as rows
 abbrev pub alone_text : Layout → List ColumnView → List ℕ
 alone_text layout [] = []
 alone_text layout (column ∷ columns) = flat_map (record_text layout) (fitting layout column.tokens)
@@ -54,48 +54,44 @@ alone_text layout (column ∷ columns) = flat_map (record_text layout) (fitting 
 abbrev pub body_text : Pair → List ColumnView → List ℕ
 body_text pair columns = if is_alone pair then alone_text (layout_of (form pair.format)) columns else table_text (table_in pair) columns
 
--- how many frames the head of a file tells
+-- how many frames the head of a file states
 abbrev pub frames_told : List ColumnView → Option ℕ
 frames_told columns = Some (min (longest columns) (2 ^ 32 - 1))
 
--- a file of streams: what stands before their tokens, these, and what stands after them
+-- a file of streams: what precedes their tokens, the tokens, and what follows them
 abbrev pub text_of : ℕ → Pair → List (List ℕ) → List ColumnView → List ℕ
 text_of rate pair names columns =
     head_text (form pair.format) names rate (frames_told columns) ++ body_text pair columns ++ tail_text (form pair.format) (length (body_text pair columns)) (frames_told columns)
 
--- the file of the first of these pairs
 abbrev pub file_text : ℕ → List Pair → List StreamFile → List ℕ
 file_text rate [] files = []
 file_text rate (p ∷ ps) files = text_of rate p (channels_of (group_in (p ∷ ps))) (columns (group_in (p ∷ ps)) files)
 
--- each file begins with a first channel
+-- each file belongs to the pairs from a first channel on
 abbrev pub file_texts : ℕ → List Pair → List StreamFile → List (List ℕ)
 file_texts rate [] files = []
 file_texts rate (p ∷ ps) [] = []
 file_texts rate (p ∷ ps) (file ∷ files) = if p.place == 0 then file_text rate (p ∷ ps) (file ∷ files) ∷ file_texts rate ps files else file_texts rate ps files
 
--- what is noted of a file
 abbrev pub file_note : StreamFile → FileNote
 file_note file = record { tokens = length file.tokens; clipped = file.clipped; is_misfit = file.is_misfit }
 
--- what is noted of a run beside its status
 pub record IsNoted (tokens outputs : List Pair) (told : Told) (ran : Ran) : Type 0 where
   pub notes : ran.notes ≡ told.notes
   pub tokens_are : ran.tokens.items ≡ tokens
   pub outputs_are : ran.outputs.items ≡ outputs
   pub files : ran.files.items ≡ map file_note told.outputs.items
 
--- a report goes to standard output, and if a stream goes there to standard error
+-- a report goes to standard output, or to standard error if a stream goes to standard output
 abbrev pub reported : List Pair → List ℕ → Effect
 reported outputs report = if nat_lt 0 (count_standard outputs) then said report else wrote standard report
 
--- each stream goes to the file at its place
 abbrev pub streams_written : List Pair → List (List ℕ) → List Effect
 streams_written [] texts = []
 streams_written (p ∷ ps) [] = []
 streams_written (p ∷ ps) (text ∷ texts) = wrote p.file.now text ∷ streams_written ps texts
 
--- the report, unless it is not wanted, and then the streams
+-- the report, unless the command is quiet, and then the streams
 abbrev pub told_written : Bool → List Pair → List ℕ → List (List ℕ) → List Effect
 told_written true outputs report texts = streams_written outputs texts
 told_written false outputs report texts = reported outputs report ∷ streams_written outputs texts
@@ -103,7 +99,7 @@ told_written false outputs report texts = reported outputs report ∷ streams_wr
 abbrev pub written_of : Bool → ℕ → List Pair → Told → List Effect
 written_of is_quiet rate outputs told = told_written is_quiet (firsts outputs) (string_bytes told.report) (file_texts rate outputs told.outputs.items)
 
--- what is left where an effect fails
+-- what is left of an effect that fails
 abbrev pub failure_of : Effect → Effect
 failure_of (wrote name bytes) = not_written name
 failure_of (said text) = not_said
@@ -120,19 +116,19 @@ abbrev pub has_failure : List Effect → Bool
 has_failure [] = false
 has_failure (e ∷ es) = is_failure e || has_failure es
 
--- an effect that is due comes about, or fails
+-- an effect happens, or fails
 abbrev pub IsTried : Effect → Effect → Type 0
 IsTried due effect = (effect ≡ due) ⊎ (effect ≡ failure_of due)
 
--- each of these effects is tried, in order and also where another has failed; and whether none has failed
+-- each of these effects is tried, in order and even if another failed; and whether none failed
 pub record Tries (effects : List Effect) (are_done : Bool) (before after : Option (List Effect)) : Type 0 where
   pub tried : List Effect
   pub each : AllZip IsTried effects tried
   pub none_failed : are_done ≡ not (has_failure tried)
   pub goes_on : GoOn tried before after
 
--- each of these is tried; the status is the one that is meant if none fails, and else 7. So if the status is not 7 all is written as it
--- is due, and 7 comes only where a write can fail, or is meant
+-- each effect is tried. The status is the intended one if none fails, else 7. So if it is not 7, all is
+-- written, and 7 occurs only if a write can fail, or 7 is intended
 pub record Writes (status : Status) (effects : List Effect) (steady : Bool) (before after : Option (List Effect)) (given : Status) : Type 0 where
   pub are_done : Bool
   pub tries : Tries effects are_done before after

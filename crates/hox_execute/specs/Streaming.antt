@@ -1,4 +1,4 @@
--- What `hox stream` does, from what is chosen and files to what is written.
+-- What `hox stream` does, from its arguments and files to what is written.
 use Rattle.std.specs.Prelude.{◌≡◌, ◌⊎◌, ℕ, codes, Bool, false, true, List, [], ◌∷◌, map, nat_lt, Option, None, IfSome, option_map, unwrap_or, Err}
 use Rattle.std.specs.List.{AllZip, Any, filter}
 use Rattle.std.specs.Io.KnownBytes.{Appends}
@@ -59,25 +59,24 @@ formats_of choice = map (λ s. s.now) choice.formats.items
 abbrev pub unsigned_of : StreamChoice → List (List ℕ)
 unsigned_of choice = map (λ s. s.now) choice.unsigned.items
 
--- the uses of files between these ends. What is told goes to standard error
+-- the uses of files between these ends. Messages go to standard error
 abbrev pub uses_between : StreamChoice → List Pair → List Pair → List Used
 uses_between choice inputs outputs = uses_in In (file_of choice) inputs (firsts outputs) false
 
--- the channels and files of the texts of an option, with how the files have tokens
+-- the pairs of the texts of an option
 abbrev pub ArePairsOf : StreamChoice → List (List ℕ) → List Pair → Type 0
 ArePairsOf choice texts pairs = ArePairs (formats_of choice) (unsigned_of choice) texts pairs
 
--- a text names no file, or a text on formats is none or of no use
 abbrev pub AreUnpaired : StreamChoice → Stop → Type 0
 AreUnpaired choice stop =
     IsUnpaired (formats_of choice) (unsigned_of choice) (codes "in") (inputs_of choice) stop
     ⊎ (IsUnpaired (formats_of choice) (unsigned_of choice) (codes "out") (outputs_of choice) stop
     ⊎ ((inputs outputs : List Pair) × ArePairsOf choice (inputs_of choice) inputs × ArePairsOf choice (outputs_of choice) outputs × IsUnusable (formats_of choice) inputs outputs stop))
 
--- which files can't be used beside each other, if that is known
+-- which names clash, if known
 module _ (clash : List ℕ → Bool → List ℕ → Bool → Option Bool) (choice : StreamChoice) where
-  -- the ends that are chosen: standard input and standard output are named once at most, and the uses of files stand beside each other. Files
-  -- of one channel come before those of several
+  -- the chosen ends: standard input and output are named at most once, and no uses clash. Files of one
+  -- channel come before those of several
   pub record AreEnds (ends : Ends) : Type 0 where
     pub inputs : ArePairsOf choice (inputs_of choice) ends.inputs.items
     pub written : List Pair
@@ -88,8 +87,7 @@ module _ (clash : List ℕ → Bool → List ℕ → Bool → Option Bool) (choi
     pub one_output : nat_lt 1 (count_standard (firsts written)) ≡ false
     pub apart : AreApart clash (uses_between choice ends.inputs.items written)
 
-  -- why there are none: a text names no file, or no format, standard input or standard output is named twice, two uses of files can't stand beside
-  -- each other, or memory was refused
+  -- why there are no ends, for each fault
   abbrev pub IsNoEnds : StreamStop → Type 0
   IsNoEnds (Asked (NoPair option text)) = AreUnpaired choice (NoPair option text)
   IsNoEnds (Asked (Format stop)) = AreUnpaired choice (Format stop)
@@ -107,18 +105,17 @@ module _ (clash : List ℕ → Bool → List ℕ → Bool → Option Bool) (choi
   IsNoEnds (Unread file error) = ⊥
   IsNoEnds (Unwritten file error) = ⊥
 
--- a file that was opened to be read: how its tokens are laid out, how many there are a second if that is told, and what of it is left to
--- read, if that is known
+-- an input file at its tokens: their layout, the samples per second, if stated, and what is left to read, if known
 pub record Opening : Type 0 where
   pub layout : Layout
   pub rate : Option ℕ
   pub left : Option (List ℕ)
 
--- what stands before its tokens was read, and what is left are its records
+-- what precedes its tokens was read, and what is left are its records
 abbrev pub IsOpening : (List ℕ → Option (List ℕ)) → Pair → Opening → Type 0
 IsOpening contents pair opening = IsBegun (form pair.format) pair.place pair.count (contents pair.file.now) opening.layout opening.rate opening.left
 
--- what contracts see of a file that was opened
+-- what contracts see of an opened file
 abbrev pub opening_of : {X : Type 0} → (X → Option (List ℕ)) → Begun X → Opening
 opening_of left begun = record { layout = begun.layout; rate = begun.rate; left = left begun.source }
 
@@ -126,33 +123,29 @@ pub record IsOpened {X : Type 0} (left : X → Option (List ℕ)) (has_failed : 
   pub opening : IsOpening contents pair (opening_of left begun)
   pub unfailed : has_failed begun.source ≡ false
 
--- the source of a file that was opened
 abbrev pub laid_source : {X : Type 0} → Begun X → LaidOut X
 laid_source begun = record { stream = begun.source; layout = begun.layout }
 
--- how many samples a second these files tell
+-- the first samples per second that these files state
 abbrev pub rate_in : List Opening → ℕ
 rate_in openings = first_rate (map (λ (o : Opening). o.rate) openings)
 
--- in a file that was opened to be written there was nothing, and then what stands before the tokens of channels of these names was written
+-- a created file was empty, and then got what precedes the tokens of channels of these names
 pub record IsHeaded {X : Type 0} (seen : X → SinkView) (rate : ℕ) (pair : Pair) (names : List (List ℕ)) (stream : X) : Type 0 where
   pub created : Option (List ℕ)
   pub empty : IfSome created (λ bytes. bytes ≡ [])
   pub headed : Appends created (seen stream).contents (head_text (form pair.format) names rate None)
 
--- a file of one channel that was opened to be written
 pub record IsCreated {X : Type 0} (seen : X → SinkView) (rate : ℕ) (pair : Pair) (sink : LaidOut X) : Type 0 where
   pub layout : sink.layout ≡ layout_of (form pair.format)
   pub headed : IsHeaded seen rate pair (pair.channel.now ∷ []) sink.stream
 
--- a file of several channels that was opened to be written
 pub record IsTabled {X : Type 0} (seen : X → SinkView) (rate : ℕ) (group : Group) (laid : LaidTable X) : Type 0 where
   pub table : laid.table ≡ table_in group.first
   pub columns : laid.columns.items ≡ map (λ (p : Pair). decimals_of (form p.format)) group.pairs
   pub headed : IsHeaded seen rate group.first (channels_of group.pairs) laid.stream
 
--- a file of some pair can't be opened to be read, or what stands before its tokens is refused; or it can't be opened to be written; or
--- memory was refused
+-- some pair's file can't be read or is faulty before its tokens, or can't be created; or out of memory
 abbrev pub IsOfPair : List Pair → List ℕ → Type 0
 IsOfPair pairs name = Any (λ (p : Pair). p.file.now ≡ name) pairs
 
@@ -190,7 +183,7 @@ source_at opening = record { stream = opening.left; layout = opening.layout }
 abbrev pub sources_at : FlowView → List Opening → List InletView
 sources_at start openings = new_inlets (λ (o : Option (List ℕ)). o) (λ _. false) start.network start.inputs (map source_at openings)
 
--- a stream runs from its start between files to its end
+-- a stream runs between files from its start to its end
 pub record RunsBetween (kinds : Family) (contents : List ℕ → Option (List ℕ)) (ends : Ends) (start t : FlowView) (ins : List InletView) (outs : OutsView) (finish : Finish) : Type 0 where
   pub openings : List Opening
   pub opened : AllZip (IsOpening contents) ends.inputs.items openings
@@ -200,7 +193,6 @@ pub record RunsBetween (kinds : Family) (contents : List ℕ → Option (List �
   pub tabled : AllZip (IsTabled (λ (v : SinkView). v) (rate_in openings)) (groups ends.outputs.items) tables
   pub serves : Serves kinds start t (sources_at start openings) ins (new_outs (λ (v : SinkView). v) start.outputs sinks tables) outs finish
 
--- a text is refused as a description
 abbrev pub IsRefusedText : (List ℕ → Option (ℕ × ℕ)) → (Card → Option Signature) → List ℕ → Unopened → Type 0
 IsRefusedText named signature text (IsRefused refused error) = LoadsChanged (as_meant named signature text) named signature false text (Err refused.fault)
 IsRefusedText named signature text (Faulty channels fault) = ⊥
@@ -212,27 +204,25 @@ IsUnreadText (IsRefused refused error) = refused.fault ≡ Input
 IsUnreadText (Faulty channels fault) = ⊥
 IsUnreadText NoMemory = Unit {0}
 
--- a family's names and ports
 module _ (named : List ℕ → Option (ℕ × ℕ)) (signature : Card → Option Signature) where
-  -- a text describes this sketch, as it is meant
+  -- a text has this completed sketch
   abbrev pub IsSketchOf : List ℕ → Sketch → Type 0
   IsSketchOf text sketch = (described : Sketch) × Describes text described × (sketch ≡ as_meant named signature text described)
 
   module _ (contents : List ℕ → Option (List ℕ)) (name : List ℕ) where
-    -- this is the text of the file, if what it holds is known
+    -- this is the text of the file, if known
     abbrev pub IsTextIn : List ℕ → Type 0
     IsTextIn text = IfSome (contents name) (λ bytes. text ≡ bytes)
 
-    -- the text in the file describes this sketch
     abbrev pub IsSketchIn : Sketch → Type 0
     IsSketchIn sketch = (text : List ℕ) × IsTextIn text × IsSketchOf text sketch
 
-    -- the description is refused: it can't be read, or its text has the fault
+    -- the description can't be read, or its text has the fault
     abbrev pub IsRefusedIn : Unopened → Type 0
     IsRefusedIn unopened = IsUnreadText unopened ⊎ ((text : List ℕ) × IsTextIn text × IsRefusedText named signature text unopened)
 
 module _ (kinds : Family) (named : List ℕ → Option (ℕ × ℕ)) where
-  -- the network of a stream, in which what only reads an output stops at once
+  -- the network of a stream, in which processes that only read an output stop at once
   abbrev pub streamed_net : Sketch → Ends → Network
   streamed_net sketch ends = net_of (both_named named exit_named) (with_exits (channels_of ends.outputs.items) sketch)
 
@@ -241,7 +231,6 @@ module _ (kinds : Family) (named : List ℕ → Option (ℕ × ℕ)) where
   StartsBetween sketch ends start = IsStarted (both_family kinds exits) (streamed_net sketch ends) (channels_of ends.inputs.items) (channels_of ends.outputs.items) start
 
   module _ (signature : Card → Option Signature) where
-    -- the stream of a sketch between these ends has this fault
     abbrev pub HasStreamFault : Sketch → Ends → StreamFault → Type 0
     HasStreamFault sketch ends fault =
         IsStreamFault (both_family kinds exits) (streamed_net sketch ends) (IsNoNetwork (both_named named exit_named) (both_ports signature exit_ports) (with_exits (channels_of ends.outputs.items) sketch))
@@ -253,7 +242,7 @@ module _ (kinds : Family) (named : List ℕ → Option (ℕ × ℕ)) where
     IsFaultyBetween sketch ends NoMemory = Unit {0}
 
     module _ (contents : List ℕ → Option (List ℕ)) where
-      -- a stream is opened at its start between these ends
+      -- the stream of a description at its start between these ends
       pub record Opens (name : List ℕ) (ends : Ends) (start : FlowView) : Type 0 where
         pub sketch : Sketch
         pub is_in : IsSketchIn named signature contents name sketch
@@ -267,16 +256,15 @@ module _ (kinds : Family) (named : List ℕ → Option (ℕ × ℕ)) where
       IsUnopened name ends (Faulty channels fault) = IsFaulty name ends fault
       IsUnopened name ends NoMemory = Unit {0}
 
-      -- which files can't be used beside each other, if that is known
+      -- which names clash, if known
       module _ (clash : List ℕ → Bool → List ℕ → Bool → Option Bool) (choice : StreamChoice) where
-        -- what is chosen is streamed: between the ends that are chosen, from the start of the network of the description, to its end
+        -- the choice is streamed: between its ends, from the start of its network to its end
         pub record StreamsBetween (ends : Ends) (t : FlowView) (ins : List InletView) (outs : OutsView) (finish : Finish) : Type 0 where
           pub chosen : AreEnds clash choice ends
           pub start : FlowView
           pub opens : Opens (file_of choice) ends start
           pub runs : RunsBetween (both_family kinds exits) contents ends start t ins outs finish
 
-        -- why it is not
         abbrev pub IsStreamStop : StreamStop → Type 0
         IsStreamStop (Asked stop) = IsNoEnds clash choice (Asked stop)
         IsStreamStop OutputTwice = IsNoEnds clash choice OutputTwice

@@ -1,4 +1,4 @@
-//! Checking a description.
+//! Checks a description.
 ghost use Rattle.std.specs.Prelude.{◌≡◌, [], Result, IfOk, IfErr, OnErr, map};
 ghost use Rattle.kpn_front.specs.Lines.{checked_line};
 ghost use Rattle.kpn_model.specs.Network.{Network as NetworkV};
@@ -19,11 +19,10 @@ use kpn_model::Kinds;
 use kpn_network::Net;
 use std::alloc::{AllocError, Global};
 
-/// How many bytes a line has room for: two numbers and the text around them.
+/// The room of a line in bytes: two numbers and the text around them.
 const LINE_BYTES: usize = 64;
 
-/// Writes that the description that is wanted, with the tokens of these files, is a network. Returns the exit status.
-///
+/// Writes that the description, with the tokens of these files, is a network. Returns the exit status.
 /// Errors: see [`Stop`].
 pub(crate) fn check<'a, K: Kinds, S: FileSystem>(
     alloc: Global,
@@ -47,7 +46,6 @@ pub(crate) fn check<'a, K: Kinds, S: FileSystem>(
     }
 }
 
-/// The line that says that the description in this file is a network, with the tokens of a request.
 fn checked_line<K: Kinds, S: FileSystem>(
     alloc: Global,
     files: &S,
@@ -67,8 +65,7 @@ fn checked_line<K: Kinds, S: FileSystem>(
     }
 }
 
-/// The network of the description in this file, as a request wants it. A file that can't be opened counts as one that
-/// can't be read.
+/// Prepares the network of a description. A file that can't be opened counts as one that can't be read.
 fn prepared_net<K: Kinds, S: FileSystem>(
     alloc: Global,
     files: &S,
@@ -90,7 +87,6 @@ fn prepared_net<K: Kinds, S: FileSystem>(
     }
 }
 
-/// The line that says that this is a network.
 fn line_of<K: Kinds>(alloc: Global, net: &Net<K>) -> Result<Vec<u8>, AllocError>
     ensures { IfOk result (λ line. line.items ≡ checked_line net.now) }
 {

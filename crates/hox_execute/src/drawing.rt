@@ -1,4 +1,4 @@
-//! Drawing a network.
+//! Draws a network.
 ghost use Rattle.std.specs.Prelude.{◌≡◌, ◌≤◌, [], IfOk, IfErr, OnErr, map};
 ghost use Rattle.kpn_model.specs.Families.{family};
 ghost use Rattle.hox_draw.specs.Drawing.{GivesPicture};
@@ -22,10 +22,8 @@ use std::rt::Clock;
 use std::sync::Wait;
 use std::thread::Threads;
 
-/// Draws the network that is wanted, with the tokens of files, as it is or as a run left it, and writes the picture
-/// to standard output. Returns the exit status.
-///
-/// Errors: see [`Stop`].
+/// Draws a network, with the tokens of files, as it is or as a run left it, and writes the picture to
+/// standard output. Returns the exit status. Errors: see [`Stop`].
 pub(crate) fn draw<'a, K: Computes + Titled, S: FileSystem, R: Wait + Clock + Threads + Sync>(
     rt: &R,
     alloc: Global,
@@ -60,8 +58,7 @@ pub(crate) fn draw<'a, K: Computes + Titled, S: FileSystem, R: Wait + Clock + Th
     }
 }
 
-/// The picture of the network that the description in this file has, as a request wants it. A file that can't be
-/// opened counts as one that can't be read.
+/// Draws the network of a description. A file that can't be opened counts as one that can't be read.
 fn drawn<K: Computes + Titled, S: FileSystem, R: Wait + Clock + Threads + Sync>(
     rt: &R,
     alloc: Global,

@@ -1,5 +1,5 @@
-//! What `hox` does, as one function: from its arguments and the bytes of files to what is written, to files and to
-//! standard output and standard error, and the exit status.
+//! The program `hox` as one function: from its arguments and the bytes of files to all that it writes, and
+//! the exit status.
 #![tactic(auto)]
 
 mod checking;

@@ -1,7 +1,7 @@
-//! Who is told how far a run has come.
+//! Progress, if the arguments ask for it.
 use hox_run::{Progress, SoFar};
 
-/// Told if the arguments ask for it, or if who is told wants it anyhow.
+/// Forwards progress if the arguments ask for it, or the receiver wants it anyway.
 #[derive(Drop)]
 pub(crate) struct Asking<'a, P> {
     pub(crate) progress: &'a P,

@@ -1,4 +1,4 @@
-//! Running a network.
+//! Runs a network.
 ghost use Rattle.std.specs.Prelude.{◌≡◌, ◌≤◌, IfOk, IfErr, OnErr, map};
 ghost use Rattle.kpn_model.specs.Families.{family};
 ghost use Rattle.hox_network.specs.Preparing.{HasFewWorkers};
@@ -24,8 +24,8 @@ use std::rt::Clock;
 use std::sync::Wait;
 use std::thread::Threads;
 
-/// A run that was made: its exit status, what it left unused, the files of its first tokens and of its streams, each
-/// beside its channel, and what was written to each of these.
+/// The outcome of a run: its exit status, what it left unused, the pairs of its token files and output files,
+/// and what was written to each output.
 #[derive(Drop)]
 pub struct Ran<'a> {
     pub status: Status,
@@ -35,10 +35,8 @@ pub struct Ran<'a> {
     pub files: Vec<FileNote>,
 }
 
-/// Runs the network that is wanted on the tokens of files, and writes what is told of it: the report, unless it is not
-/// wanted, and each stream to its file. While it runs, `progress` is told how far it has come.
-///
-/// Errors: see [`Stop`].
+/// Runs a network on the tokens of files; writes the report, unless the command is quiet, and each stream to
+/// its file. `progress` receives the progress of the run. Errors: see [`Stop`].
 pub(crate) fn run<'a, K: Computes, S: FileSystem, R: Wait + Clock + Threads + Sync, P: Progress>(
     rt: &R,
     alloc: Global,
@@ -65,9 +63,7 @@ pub(crate) fn run<'a, K: Computes, S: FileSystem, R: Wait + Clock + Threads + Sy
     }
 }
 
-/// Writes what is told of a run.
-///
-/// Errors: memory was refused. Nothing is written then.
+/// Writes the result of a run. Errors: out of memory. Then nothing is written.
 fn ran_of<'a, S: FileSystem>(
     alloc: Global,
     files: &mut S,
@@ -112,8 +108,7 @@ fn ran_of<'a, S: FileSystem>(
     })
 }
 
-/// What is told of the run of the network that the description in this file has, as a request wants it. A file that
-/// can't be opened counts as one that can't be read.
+/// Runs the network of a description. A file that can't be opened counts as one that can't be read.
 fn told_of<K: Computes, S: FileSystem, R: Wait + Clock + Threads + Sync, P: Progress>(
     rt: &R,
     alloc: Global,

@@ -1,4 +1,4 @@
-//! From arguments to what is done.
+//! Executes the arguments.
 ghost use Rattle.std.specs.Prelude.{◌≡◌, ◌≤◌, IfOk, IfErr, IfSome, MatchResult, None, false, OnErr, [], is_some, map, option_map};
 ghost use Rattle.kpn_front.specs.declared.status.Status.{Status as StatusV};
 ghost use Rattle.hox_execute.specs.declared.running.Ran.{Ran as RanV};
@@ -25,24 +25,23 @@ use std::rt::Clock;
 use std::sync::Wait;
 use std::thread::Threads;
 
-/// What was done, or is to be done.
+/// What `execute` did, or leaves to do.
 #[derive(Drop)]
 pub enum Outcome<'a> {
-    /// All was done, and the program exits with this status: 0, or 7 if a write failed.
+    /// All is done. The program exits with this status: 0, or 7 if a write failed.
     Exits(Status),
-    /// A network was run, and the program exits with its status: that of the verdict, or 2 if a token does not fit a
-    /// file, or 7 if a write failed.
+    /// A network was run. The program exits with its status: that of the verdict, or 2 if a token does not
+    /// fit a file, or 7 if a write failed.
     Ran(Ran<'a>),
-    /// This stream is to be run, and nothing was done yet.
+    /// This stream is still to be run. Nothing is done yet.
     Streams(StreamChoice<'a>),
 }
 
-/// Does what the arguments ask for; the first of them is the program's name. Of a family of kinds it checks, runs or
-/// draws the network of a description, with the tokens of files, and writes the report and streams to files. Files are
-/// read and written by `files`, and while a network runs `progress` is told how far it has come, if the arguments or
-/// it want that.
+/// Executes the arguments; the first is the program's name. With a family of kinds, checks, runs or draws the
+/// network of a description on the tokens of files, and writes the report and the streams. `progress`
+/// receives the progress of a run, if the arguments ask for it or it wants it.
 ///
-/// Errors: see [`Stop`]. Nothing is written then.
+/// Errors: see [`Stop`]. Then nothing is written.
 pub fn execute<
     'a,
     K: Computes + Titled,
@@ -66,7 +65,6 @@ pub fn execute<
     }
 }
 
-/// Does what was chosen.
 fn execute_choice<
     'a,
     K: Computes + Titled,
@@ -96,7 +94,6 @@ fn execute_choice<
     }
 }
 
-/// The program exits with the status that was returned.
 fn exits<'a>(done: Result<Status, Stop<'a>>) -> Result<Outcome<'a>, Stop<'a>>
     ensures { MatchResult result (λ outcome. (status : StatusV) × (outcome ≡ Outcome.Exits status) × (done.entry ≡ Ok status)) (λ stop. done.entry ≡ Err stop) }
 {
@@ -106,7 +103,6 @@ fn exits<'a>(done: Result<Status, Stop<'a>>) -> Result<Outcome<'a>, Stop<'a>>
     }
 }
 
-/// A network was run.
 fn has_run<'a>(done: Result<Ran<'a>, Stop<'a>>) -> Result<Outcome<'a>, Stop<'a>>
     ensures { MatchResult result (λ outcome. (ran : RanV) × (outcome ≡ Outcome.Ran ran) × (done.entry ≡ Ok ran)) (λ stop. done.entry ≡ Err stop) }
 {
@@ -116,7 +112,6 @@ fn has_run<'a>(done: Result<Ran<'a>, Stop<'a>>) -> Result<Outcome<'a>, Stop<'a>>
     }
 }
 
-/// The network in this file is wanted, or on standard input, with files that have tokens so.
 fn network_in<'a, 'b>(file: Option<&'a str>, formats: &'b [&'a str]) -> Wanted<'a, 'b>
     ensures { want_of result ≡ want_in (option_map (λ s. s.now) file.entry) (map (λ s. s.now) formats.entry.now) 1 }
 {
@@ -131,7 +126,6 @@ fn network_in<'a, 'b>(file: Option<&'a str>, formats: &'b [&'a str]) -> Wanted<'
     }
 }
 
-/// Runs a network as it was chosen.
 fn run_choice<'a, K: Computes, S: FileSystem, R: Wait + Clock + Threads + Sync, P: Progress>(
     rt: &R,
     alloc: Global,
@@ -159,7 +153,6 @@ fn run_choice<'a, K: Computes, S: FileSystem, R: Wait + Clock + Threads + Sync, 
     )
 }
 
-/// What a run that was chosen wants of its network.
 fn wanted_of<'a, 'b>(choice: &'b RunChoice<'a>) -> Wanted<'a, 'b>
     ensures want { want_of result ≡ want_of_run choice.now }
     ensures workers { result.workers ≡ choice.now.workers }
@@ -175,7 +168,6 @@ fn wanted_of<'a, 'b>(choice: &'b RunChoice<'a>) -> Wanted<'a, 'b>
     }
 }
 
-/// Draws a network as it was chosen.
 fn draw_choice<'a, K: Computes + Titled, S: FileSystem, R: Wait + Clock + Threads + Sync>(
     rt: &R,
     alloc: Global,
@@ -207,7 +199,6 @@ fn draw_choice<'a, K: Computes + Titled, S: FileSystem, R: Wait + Clock + Thread
     )
 }
 
-/// Whether a network is drawn as a run left it.
 fn is_run(choice: &DrawChoice<'_>) -> bool
     ensures { result ≡ is_some choice.now.workers }
 {

@@ -1,4 +1,4 @@
-//! The files to which a stream is written.
+//! Opens the output files of a stream.
 ghost use Rattle.std.specs.Prelude.{◌≡◌, None, IfErr, IfOk, map};
 ghost use Rattle.std.specs.List.{AllZip, filter};
 ghost use Rattle.hox_format.specs.Forms.{form};
@@ -19,7 +19,7 @@ use kpn_tokens::Decimals;
 use std::alloc::{AllocError, Global};
 use std::io;
 
-/// The files of those of these pairs that have one alone, opened to be written, with what stands before their tokens.
+/// Creates the files of the pairs that have one alone, and writes what precedes their tokens.
 pub(crate) fn sinks_of<'a, S: FileSystem>(
     alloc: Global,
     files: &S,
@@ -47,7 +47,7 @@ pub(crate) fn sinks_of<'a, S: FileSystem>(
     Ok(sinks)
 }
 
-/// The files of several of these pairs, opened to be written, with what stands before their tokens.
+/// Creates the files that several pairs share, and writes what precedes their tokens.
 pub(crate) fn tables_of<'a, S: FileSystem>(
     alloc: Global,
     files: &S,
@@ -75,21 +75,20 @@ pub(crate) fn tables_of<'a, S: FileSystem>(
     Ok(tables)
 }
 
-/// Whether a pair is the first of several that have one file.
+/// Returns whether a pair is the first of several that share a file.
 fn begins(pair: &Pair<'_>) -> bool
     ensures { result ≡ begins pair.now }
 {
     pair.place == 0 && !pair.is_alone()
 }
 
-/// Why a file was not opened to be written: for this reason, or memory was refused.
+/// Why a file was not created: this reason, or out of memory.
 #[derive(Drop)]
 enum Uncreated {
     Failed(io::Error),
     Memory,
 }
 
-/// The file of a pair alone, opened to be written, with what stands before its tokens.
 fn sink_of<S: FileSystem>(
     alloc: Global,
     files: &S,
@@ -106,7 +105,6 @@ fn sink_of<S: FileSystem>(
     })
 }
 
-/// The file of several pairs, of which this is the first, opened to be written, with what stands before their tokens.
 fn table_of<S: FileSystem>(
     alloc: Global,
     files: &S,
@@ -127,7 +125,6 @@ fn table_of<S: FileSystem>(
     })
 }
 
-/// How the words of the channels of pairs are written.
 fn decimals_in(alloc: Global, pairs: &[Pair<'_>]) -> Result<Vec<Decimals>, AllocError>
     ensures { IfOk result (λ v. v.items ≡ map (λ p. decimals_of (form p.format)) pairs.now) }
 {
@@ -138,7 +135,7 @@ fn decimals_in(alloc: Global, pairs: &[Pair<'_>]) -> Result<Vec<Decimals>, Alloc
     Ok(decimals)
 }
 
-/// The file of a pair, opened to be written, with what stands before the tokens of channels of these names.
+/// Creates the file of a pair, and writes what precedes the tokens of channels of these names.
 fn headed<S: FileSystem>(
     alloc: Global,
     files: &S,
@@ -161,7 +158,6 @@ fn headed<S: FileSystem>(
     }
 }
 
-/// What stands before the tokens of channels of these names in the file of a pair.
 fn head_of(
     alloc: Global,
     pair: &Pair<'_>,

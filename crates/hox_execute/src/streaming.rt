@@ -1,4 +1,4 @@
-//! Running a network on tokens that come from files, as they come.
+//! Runs a network on tokens from files as they come.
 ghost use Rattle.std.specs.Prelude.{◌≡◌, IfOk, IfErr, IfSome, map};
 ghost use Rattle.std.specs.List.{AllZip};
 ghost use Rattle.hox_format.specs.Resuming.{left_of, resumed_has_failed};
@@ -30,63 +30,61 @@ use kpn_net::{Net, NetFault, Sketch};
 use std::alloc::{AllocError, Global};
 use std::io;
 
-/// The ends of a stream: from which files tokens come into which channels, and to which files which channels go, those
-/// that have a file alone before those that stand side by side in one.
+/// The ends of a stream: the channels and files of its inputs, and of its outputs, those with a file alone first.
 #[derive(Drop)]
 pub struct Ends<'a> {
     pub inputs: Vec<Pair<'a>>,
     pub outputs: Vec<Pair<'a>>,
 }
 
-/// A stream that has ended: its ends, and what is left of it.
+/// A stream that ended: its ends, and what is left of it.
 #[derive(Drop)]
 pub struct Streamed<'a, F: Computes, I: Source, O: Sink> {
     pub ends: Ends<'a>,
     pub served: Served<F, I, O>,
 }
 
-/// Why a stream is not run. Of its inputs no more was read then than what stands before their tokens, and a piece of
-/// these, and nothing was written but what stands before tokens.
+/// Why a stream is not run. Then at most what precedes the tokens, and a piece of these, was read of its
+/// inputs, and at most what precedes the tokens was written.
 #[derive(Drop)]
 pub enum StreamStop<'a> {
-    /// A text names no file, or no format, or standard input is named more than once, or two uses of files can't stand
-    /// beside each other, or memory was refused.
+    /// A text without file or format, standard input named more than once, two uses of files that clash, or
+    /// out of memory.
     Asked(Stop<'a>),
     /// Standard output is named more than once.
     OutputTwice,
-    /// The description in this file is refused; and the system's reason, if it could not be read. If it could be, and
-    /// its fault is `Input`, it is too long.
+    /// The description in this file is faulty. `error` is the system's reason if it can't be read; the fault
+    /// `Input` without one means that it is too long.
     Refused {
         file: &'a str,
         refused: Refused,
         error: Option<io::Error>,
     },
-    /// The stream between these ends is not opened; the names that the channels have.
+    /// The stream between these ends can't be opened. `channels` are the names of all channels.
     Unopened {
         ends: Ends<'a>,
         channels: Listed<Text>,
         fault: StreamFault,
     },
-    /// The file of this name could not be read, to the first of its tokens.
+    /// This file can't be read up to the first of its tokens.
     Unread {
         file: &'a str,
         error: io::Error,
     },
-    /// What stands before the tokens in the file of this name is refused.
+    /// What precedes the tokens in this file is faulty.
     Headless {
         file: &'a str,
         fault: HeadFault,
     },
-    /// The file of this name could not be opened, to be written, or what stands before its tokens could not be written.
+    /// This file can't be created, or what precedes its tokens can't be written.
     Unwritten {
         file: &'a str,
         error: io::Error,
     },
 }
 
-/// Runs the network of a description on tokens that come from files, as they are read, and writes what goes through
-/// channels to files, as it comes, until the network comes to its end or an input or an output ends it. What only
-/// reads a channel that is written out stops at once.
+/// Runs the network of a description on tokens from files as they are read, and writes its outputs to files as they
+/// come, until the network, an input or an output ends the stream. A process that only reads an output stops at once.
 ///
 /// Errors: see [`StreamStop`].
 pub fn stream<'a, K: Computes, S: FileSystem>(
@@ -115,7 +113,6 @@ pub fn stream<'a, K: Computes, S: FileSystem>(
     }
 }
 
-/// The ends that are chosen.
 fn ends_of<'a, S: FileSystem>(
     alloc: Global,
     files: &S,
@@ -151,7 +148,7 @@ fn ends_of<'a, S: FileSystem>(
     }
 }
 
-/// The ends that are named, whether or not they can be used beside each other.
+/// Parses the ends, without checking that their files can be used together.
 fn named_ends<'a>(alloc: Global, choice: &StreamChoice<'a>) -> Result<Ends<'a>, Stop<'a>>
     ensures inputs { IfOk result (λ ends. ArePairsOf choice.now (inputs_of choice.now) ends.inputs.items) }
     ensures outputs { IfOk result (λ ends. ArePairsOf choice.now (outputs_of choice.now) ends.outputs.items) }
@@ -168,8 +165,8 @@ fn named_ends<'a>(alloc: Global, choice: &StreamChoice<'a>) -> Result<Ends<'a>, 
     Ok(Ends { inputs, outputs })
 }
 
-/// Why a stream is not opened: its description is refused, or could not be read for this reason; or the stream of the
-/// sketch has a fault, and these are the names of channels; or memory was refused.
+/// Why a stream is not opened: its description is faulty, or can't be read for this reason; or the sketch has
+/// a fault, with the names of its channels; or out of memory.
 #[derive(Drop)]
 pub(crate) enum Unopened {
     Refused(Refused, Option<io::Error>),
@@ -177,7 +174,6 @@ pub(crate) enum Unopened {
     Memory,
 }
 
-/// The stream of the description in this file between these ends, at its start.
 fn opened<K: Computes, S: FileSystem>(
     alloc: Global,
     files: &S,
@@ -193,14 +189,13 @@ fn opened<K: Computes, S: FileSystem>(
     }
 }
 
-/// The sketch of a description, as it is meant, and the names of the channels of its network.
+/// The completed sketch of a description, and the names of its channels.
 #[derive(Drop)]
 pub(crate) struct Described {
     sketch: Sketch,
     channels: Listed<Text>,
 }
 
-/// The stream of a sketch between these ends, at its start.
 fn open_described<K: Computes>(
     alloc: Global,
     described: Described,
@@ -222,14 +217,12 @@ fn open_described<K: Computes>(
     }
 }
 
-/// The names of the channels that are fed.
 fn fed_names(alloc: Global, ends: &Ends<'_>) -> Result<Vec<Text>, AllocError>
     ensures { IfOk result (λ names. names.items ≡ channels_of ends.now.inputs.items) }
 {
     names_of(alloc, ends.inputs.as_slice())
 }
 
-/// What the description in this file describes.
 fn described_in<K: Kinds, S: FileSystem>(
     alloc: Global,
     files: &S,
@@ -244,7 +237,6 @@ fn described_in<K: Kinds, S: FileSystem>(
     }
 }
 
-/// What a text describes.
 fn described_by<K: Kinds>(alloc: Global, text: &[u8]) -> Result<Described, Unopened>
     ensures ok { IfOk result (λ described. IsSketchOf K.named K.signature text.now described.sketch) }
     ensures fault { IfErr result (IsRefusedText K.named K.signature text.now) }
@@ -259,7 +251,6 @@ fn described_by<K: Kinds>(alloc: Global, text: &[u8]) -> Result<Described, Unope
     }
 }
 
-/// The bytes of the description in this file.
 fn text_in<S: FileSystem>(alloc: Global, files: &S, name: &str) -> Result<Vec<u8>, Unopened>
     ensures ok { IfOk result (λ text. IfSome (S.contents files.now name.now) (λ bytes. text.items ≡ bytes)) }
     ensures fault { IfErr result IsUnreadText }
@@ -272,7 +263,7 @@ fn text_in<S: FileSystem>(alloc: Global, files: &S, name: &str) -> Result<Vec<u8
     }
 }
 
-/// A description is refused since it could not be read for this reason, or is too long.
+/// Returns the fault of a description that can't be read for this reason, or is too long.
 fn unread_text(alloc: Global, error: Option<io::Error>) -> Unopened
     ensures { IsUnreadText result }
 {
@@ -283,7 +274,6 @@ fn unread_text(alloc: Global, error: Option<io::Error>) -> Unopened
     Unopened::Refused(refused, error)
 }
 
-/// The names of the channels of the network that a text describes.
 fn channels_in<K: Kinds>(alloc: Global, text: &[u8]) -> Result<Listed<Text>, Unopened>
     ensures { IfErr result (IsRefusedText K.named K.signature text.now) }
 {
@@ -295,7 +285,6 @@ fn channels_in<K: Kinds>(alloc: Global, text: &[u8]) -> Result<Listed<Text>, Uno
     }
 }
 
-/// Runs a stream from its start between files.
 fn run_between<'a, F: Computes, S: FileSystem>(
     alloc: Global,
     files: &S,
@@ -312,7 +301,6 @@ fn run_between<'a, F: Computes, S: FileSystem>(
     run_opened(alloc, ends, start, sources, sinks, tables)
 }
 
-/// Runs a stream from its start between files that were opened.
 fn run_opened<'a, F: Computes, I: Source + Drop, O: Sink + Drop>(
     alloc: Global,
     ends: Ends<'a>,
@@ -333,7 +321,6 @@ fn run_opened<'a, F: Computes, I: Source + Drop, O: Sink + Drop>(
     }
 }
 
-/// The sources of files that were opened.
 fn laid_out<S: Source + Drop>(
     alloc: Global,
     begun: Vec<Begun<S>>,
@@ -347,7 +334,6 @@ fn laid_out<S: Source + Drop>(
     Ok(sources)
 }
 
-/// The source of a file that was opened.
 fn laid_source<S>(begun: Begun<S>) -> LaidOut<S>
     ensures { result ≡ laid_source begun }
 {
@@ -362,7 +348,7 @@ fn laid_source<S>(begun: Begun<S>) -> LaidOut<S>
     }
 }
 
-/// How many samples a second the first of these files tells that tells it.
+/// Returns the first stated number of samples per second, or else `USUAL_RATE`.
 fn rate_of<S>(sources: &[Begun<S>]) -> u32
     ensures { result ≡ first_rate (map (λ b. b.rate) sources.now) }
 {
@@ -374,7 +360,7 @@ fn rate_of<S>(sources: &[Begun<S>]) -> u32
     USUAL_RATE
 }
 
-/// The files of these pairs, opened to be read and read to where their tokens begin.
+/// Opens the files of these pairs, and reads what precedes their tokens.
 fn sources_of<'a, S: FileSystem>(
     alloc: Global,
     files: &S,
@@ -399,7 +385,6 @@ fn sources_of<'a, S: FileSystem>(
     Ok(sources)
 }
 
-/// The file of a pair, opened to be read and read to where its tokens begin.
 fn source_of<S: FileSystem>(
     alloc: Global,
     files: &S,

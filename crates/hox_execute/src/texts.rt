@@ -1,4 +1,4 @@
-//! The texts of files of streams.
+//! The contents of the files of streams.
 ghost use Rattle.std.specs.Prelude.{◌≡◌, ◌++◌, IfOk, map, take};
 ghost use Rattle.std.specs.List.{flat_map};
 ghost use Rattle.kpn_tokens.specs.Records.{record_text};
@@ -17,11 +17,11 @@ use kpn_tokens::{
 };
 use std::alloc::{AllocError, Global};
 
-/// How many samples a second a WAV file has of which nothing tells.
+/// The samples per second of a WAV file if no input states them.
 pub(crate) const USUAL_RATE: u32 = 44100;
 
-/// What was written to the file of a stream: so many tokens, for so many of them the nearest that fits; and whether the
-/// next one does not fit.
+/// What was written to the file of a stream: how many tokens; how many of them were clipped to the nearest
+/// value that fits; and whether the next one does not fit.
 #[derive(Clone, Copy, Debug, PartialEq, Eq)]
 pub struct FileNote {
     pub tokens: usize,
@@ -29,9 +29,7 @@ pub struct FileNote {
     pub is_misfit: bool,
 }
 
-/// What is written to each of these files.
-///
-/// Errors: memory was refused.
+/// Returns what is written to each of these files. Errors: out of memory.
 pub(crate) fn file_notes(alloc: Global, files: &[StreamFile]) -> Result<Vec<FileNote>, AllocError>
     ensures { IfOk result (λ notes. notes.items ≡ map file_note files.now) }
 {
@@ -42,7 +40,6 @@ pub(crate) fn file_notes(alloc: Global, files: &[StreamFile]) -> Result<Vec<File
     Ok(notes)
 }
 
-/// What is written to a file.
 fn file_note(file: &StreamFile) -> FileNote
     ensures { result ≡ file_note file.now }
 {
@@ -53,7 +50,7 @@ fn file_note(file: &StreamFile) -> FileNote
     }
 }
 
-/// How many samples a second the first of these files tells that tells it.
+/// Returns the first stated number of samples per second, or else `USUAL_RATE`.
 pub(crate) fn rate_of(files: &[TokenFile]) -> u32
     ensures { result ≡ rate_of files.now }
 {
@@ -65,9 +62,7 @@ pub(crate) fn rate_of(files: &[TokenFile]) -> u32
     USUAL_RATE
 }
 
-/// The texts of the files of streams, in order. The stream of each pair stands at its place.
-///
-/// Errors: memory was refused.
+/// Returns the contents of the files of streams, in order; `pairs` and `files` correspond. Errors: out of memory.
 pub(crate) fn file_texts(
     alloc: Global,
     rate: u32,
@@ -85,7 +80,7 @@ pub(crate) fn file_texts(
     Ok(texts)
 }
 
-/// The text of the file of the first of these pairs, and of those behind it that have the same file.
+/// Returns the contents of the file of the first of these pairs.
 fn file_text(
     alloc: Global,
     rate: u32,
@@ -103,7 +98,7 @@ fn file_text(
     text_of(alloc, rate, first, names.as_slice(), columns.as_slice())
 }
 
-/// The first of these pairs, and those behind it that have the same file.
+/// Returns the first pair and those after it that share its file.
 pub(crate) fn group_of<'a, 'b>(pairs: &'b [Pair<'a>]) -> &'b [Pair<'a>]
     ensures { result.now ≡ group_in pairs.now }
 {
@@ -113,7 +108,6 @@ pub(crate) fn group_of<'a, 'b>(pairs: &'b [Pair<'a>]) -> &'b [Pair<'a>]
     }
 }
 
-/// The names of the channels of pairs.
 pub(crate) fn byte_names<'a>(alloc: Global, pairs: &[Pair<'a>]) -> Result<Vec<&'a [u8]>, AllocError>
     ensures { IfOk result (λ v. map (λ name. name.now) v.items ≡ channels_of pairs.now) }
 {
@@ -124,7 +118,7 @@ pub(crate) fn byte_names<'a>(alloc: Global, pairs: &[Pair<'a>]) -> Result<Vec<&'
     Ok(names)
 }
 
-/// The tokens that go into a file, channel by channel.
+/// Returns the tokens of a file, channel by channel.
 fn columns_of<'a>(
     alloc: Global,
     pairs: &[Pair<'_>],
@@ -142,7 +136,6 @@ fn columns_of<'a>(
     Ok(columns)
 }
 
-/// The text of a file: what stands before its tokens, these as records or as rows, and what stands after them.
 fn text_of(
     alloc: Global,
     rate: u32,
@@ -162,7 +155,7 @@ fn text_of(
     Ok(Listed::new(text))
 }
 
-/// The tokens of a channel alone as records, or those of several as rows.
+/// Returns the tokens of a single channel as records, or those of several as rows.
 fn body_text(
     alloc: Global,
     pair: &Pair<'_>,
@@ -178,7 +171,7 @@ fn body_text(
     Ok(text)
 }
 
-/// The tokens of the first of these columns as records, up to one that does not fit.
+/// Returns the tokens of the first column as records, up to one that does not fit.
 fn alone_text(
     alloc: Global,
     layout: Layout,
@@ -192,7 +185,6 @@ fn alone_text(
     }
 }
 
-/// Tokens as records, up to one that does not fit.
 fn records_of(alloc: Global, layout: Layout, tokens: &[Token]) -> Result<Vec<u8>, AllocError>
     ensures { IfOk result (λ text. text.items ≡ flat_map (record_text layout) (fitting layout tokens.now)) }
 {
@@ -204,7 +196,7 @@ fn records_of(alloc: Global, layout: Layout, tokens: &[Token]) -> Result<Vec<u8>
     }
 }
 
-/// How several channels stand side by side in the file of a pair.
+/// Returns how channels are arranged in the file of a pair.
 pub(crate) fn table_in(pair: &Pair<'_>) -> Table
     ensures { result ≡ table_in pair.now }
 {

@@ -1,4 +1,4 @@
-//! Writing a report and streams.
+//! Writes a report and streams.
 ghost use Rattle.std.specs.Prelude.{◌≡◌, ◌++◌, true, List, [], ◌∷◌, Option, if◌then◌else◌, string_bytes};
 ghost use Rattle.hox_files.specs.Files.{Effect, standard, wrote};
 ghost use Rattle.hox_execute.specs.Reports.{Tries, Writes, reported, streams_written, told_written};
@@ -8,9 +8,9 @@ use hox_files::pairs::{Pair, STANDARD, is_output_named};
 use kpn_front::Status;
 use kpn_model::Listed;
 
-/// Writes what is told of a run with this status: the report, unless it is not wanted, to standard output, or to
-/// standard error if a stream goes to standard output; and the text of each stream to its file, also where another
-/// write has failed. Returns the exit status, which is `WriteFailed` if a write fails.
+/// Writes the report, unless the command is quiet, to standard output, or to standard error if a stream goes
+/// to standard output; and each stream to its file, even if another write fails. Returns the exit status:
+/// `status`, or `WriteFailed` if a write fails.
 pub(crate) fn write_told<S: FileSystem>(
     files: &mut S,
     status: Status,
@@ -28,8 +28,7 @@ pub(crate) fn write_told<S: FileSystem>(
     status_if(are_written, status)
 }
 
-/// Writes a report, and each stream to its file, also where the report could not be written. Returns whether all were
-/// written.
+/// Writes a report, and each stream even if that fails. Returns whether all were written.
 #[tactic(auto, using(crate::proofs::Tried::first_done, crate::proofs::Tried::first_failed))]
 fn write_all<S: FileSystem>(
     files: &mut S,
@@ -45,7 +44,6 @@ fn write_all<S: FileSystem>(
     is_reported && are_written
 }
 
-/// A status, or `WriteFailed` if not all was written.
 fn status_if(is_written: bool, status: Status) -> Status
     ensures { result ≡ (if is_written then status else Status.WriteFailed) }
 {
@@ -56,7 +54,6 @@ fn status_if(is_written: bool, status: Status) -> Status
     }
 }
 
-/// Writes a report. Returns whether it was written.
 fn write_report<S: FileSystem>(files: &mut S, report: &str, outputs: &[Pair<'_>]) -> bool
     ensures tries { Tries (reported outputs.now report.now ∷ []) result (S.effects files.old) (S.effects files.new) }
     ensures steady { S.is_steady files.old ≡ true → (result ≡ true) × (S.is_steady files.new ≡ true) }
@@ -68,7 +65,7 @@ fn write_report<S: FileSystem>(files: &mut S, report: &str, outputs: &[Pair<'_>]
     }
 }
 
-/// Writes each stream to its file, also where another could not be written. Returns whether all were written.
+/// Writes each stream to its file, even if another write fails. Returns whether all were written.
 fn write_streams<S: FileSystem>(files: &mut S, outputs: &[Pair<'_>], texts: &[Listed<u8>]) -> bool
     ensures tries { Tries (streams_written outputs.now texts.now) result (S.effects files.old) (S.effects files.new) }
     ensures steady { S.is_steady files.old ≡ true → (result ≡ true) × (S.is_steady files.new ≡ true) }
@@ -80,7 +77,7 @@ fn write_streams<S: FileSystem>(files: &mut S, outputs: &[Pair<'_>], texts: &[Li
     are_written
 }
 
-/// Writes a stream to the file of a pair, also where those before it were not written. Returns whether all were.
+/// Writes a stream even if those before it failed. Returns whether all were written.
 #[tactic(auto, using(crate::proofs::Tried::next_done, crate::proofs::Tried::next_failed))]
 fn write_next<S: FileSystem>(
     files: &mut S,
@@ -95,7 +92,6 @@ fn write_next<S: FileSystem>(
     are_written && is_written
 }
 
-/// Writes a stream to the file of a pair. Returns whether it was written.
 fn write_stream<S: FileSystem>(files: &mut S, pair: Pair<'_>, text: &Listed<u8>) -> bool
     ensures tries { Tries (wrote pair.entry.file.now text.now ∷ []) result (S.effects files.old) (S.effects files.new) }
     ensures steady { S.is_steady files.old ≡ true → (result ≡ true) × (S.is_steady files.new ≡ true) }
@@ -103,7 +99,7 @@ fn write_stream<S: FileSystem>(files: &mut S, pair: Pair<'_>, text: &Listed<u8>)
     files.write(pair.file, text.as_slice()).is_ok()
 }
 
-/// Writes a text to standard output. Returns the exit status.
+/// Writes to standard output. Returns the exit status.
 pub(crate) fn write_text<S: FileSystem>(files: &mut S, text: &[u8]) -> Status
     ensures { Writes Status.Success (wrote standard text.now ∷ []) (S.is_steady files.old) (S.effects files.old) (S.effects files.new) result }
 {

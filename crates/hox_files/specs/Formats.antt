@@ -1,4 +1,4 @@
--- How files have tokens, as the arguments CHANNEL=FORMAT say it.
+-- The formats of files, as the arguments CHANNEL=FORMAT give them.
 use Rattle.std.specs.Prelude.{◌≡◌, ◌<◌, ◌==◌, ◌&&◌, ◌||◌, ℕ, Bool, true, false, if◌then◌else◌, codes, is_some, length, nat_lt, List, [], ◌∷◌, Option, Some, None, Ok, Err}
 use Rattle.std.specs.List.{Contains, after_first, before_first, list_any, position_or_len}
 use Rattle.std.specs.Option.{option_map_or}
@@ -8,14 +8,12 @@ use Rattle.hox_format.specs.Saying.{Said, format_said, refused}
 use Rattle.hox_files.specs.declared.formats.FormatStop.{FormatStop}
 use Rattle.hox_files.specs.declared.formats.FormatStop.TheVariants.{Alone, Head, NoUse, Twice, Unknown, Unlike}
 
--- the sign between a channel and what is said of it, `=`
 abbrev pub is_equals : ℕ → Bool
 is_equals b = b == 61
 
 abbrev pub HasEquals : List ℕ → Type 0
 HasEquals text = position_or_len is_equals text < length text
 
--- the name by which all channels are named
 abbrev pub all_channels : List ℕ
 all_channels = codes "all"
 
@@ -23,38 +21,36 @@ all_channels = codes "all"
 abbrev pub is_named : List (List ℕ) → List ℕ → Bool
 is_named names channel = list_any (λ name. bytes_eq name channel || bytes_eq name all_channels) names
 
--- the text says how the file of this channel has tokens
 abbrev pub is_text_of : List ℕ → List ℕ → Bool
 is_text_of channel text = nat_lt (position_or_len is_equals text) (length text) && bytes_eq (before_first is_equals text) channel
 
--- the first text that does, and what it says
+-- the format in the first text for a channel
 abbrev pub format_text : List ℕ → List (List ℕ) → Option (List ℕ)
 format_text channel [] = None
 format_text channel (text ∷ texts) = if is_text_of channel text then Some (after_first is_equals text) else format_text channel texts
 
--- the first channel of which a later text says it too
+-- the first channel that a later text repeats
 abbrev pub named_twice : List (List ℕ) → Option (List ℕ)
 named_twice [] = None
 named_twice (text ∷ texts) = if is_some (format_text (before_first is_equals text) texts) then Some (before_first is_equals text) else named_twice texts
 
--- what is said of the file of a channel: by name, or of all files, or else by the file's own name
+-- the format for a channel: the one given for it, or for all, or else the default of the file's name
 abbrev pub said_of_all : List (List ℕ) → List ℕ → Said
 said_of_all texts file = option_map_or format_said (format_text all_channels texts) (Ok (form_of_file file))
 
 abbrev pub said_for : List (List ℕ) → List ℕ → List ℕ → Said
 said_for texts channel file = option_map_or format_said (format_text channel texts) (said_of_all texts file)
 
--- its words are written unsigned if that is asked for
 abbrev pub marked : Bool → Form → Form
 marked is_unsigned form = if is_unsigned then unsigned_form form else form
 
--- how the file of a channel has tokens, by these texts and the names of the channels whose words are unsigned
+-- the format of a channel's file, by these texts and the names of the unsigned channels
 pub record IsForm (texts unsigned : List (List ℕ)) (channel file : List ℕ) (form : Form) : Type 0 where
   pub base : Form
   pub said : said_for texts channel file ≡ Ok base
   pub marks : form ≡ marked (is_named unsigned channel) base
 
--- why what is said of files is refused: one of the texts names no format
+-- a text names no format
 abbrev pub IsNoFormat : List (List ℕ) → FormatStop → Type 0
 IsNoFormat texts (Unknown fault) = (text : List ℕ) × Contains texts text × (format_said (after_first is_equals text) ≡ Err (refused fault))
 IsNoFormat texts (NoUse channel) = ⊥

@@ -14,7 +14,7 @@ use Rattle.hox_files.specs.declared.stops.Stop.TheVariants.{Clash, Format, Input
 use Rattle.hox_files.specs.Files.{standard}
 use Rattle.hox_files.specs.Formats.{HasEquals, IsForm, IsNoFormat, all_channels, is_equals, named_twice}
 
--- what a text CHANNEL,..=FILE says of one of its channels: the file, its place among them, and how many they are
+-- a channel in a text CHANNEL,..=FILE: the file, its place among the channels, and their number
 pub record Part : Type 0 where
   pub channel : List ℕ
   pub file : List ℕ
@@ -24,19 +24,18 @@ pub record Part : Type 0 where
 abbrev pub part_at : List ℕ → ℕ → ℕ → List ℕ → Part
 part_at file count place name = record { channel = name; file = file; place = place; count = count }
 
--- of the channels from a place on
 abbrev pub parts_from : List ℕ → ℕ → ℕ → List (List ℕ) → List Part
 parts_from file count place [] = []
 parts_from file count place (name ∷ names) = part_at file count place name ∷ parts_from file count (suc place) names
 
--- the channels stand before the first `=`, with commas between them, and the file after it
+-- the channels come before the first `=`, separated by commas, and the file after it
 abbrev pub names_in : List ℕ → List (List ℕ)
 names_in text = pieces (before_first is_equals text)
 
 abbrev pub parts : List ℕ → List Part
 parts text = parts_from (after_first is_equals text) (length (names_in text)) 0 (names_in text)
 
--- a channel and its file, and how the file has tokens, by these texts and the names of the channels whose words are unsigned
+-- a channel, its file and the file's format, by these texts and the names of the unsigned channels
 pub record IsPair (texts unsigned : List (List ℕ)) (part : Part) (pair : Pair) : Type 0 where
   pub channel : pair.channel.now ≡ part.channel
   pub file : pair.file.now ≡ part.file
@@ -48,24 +47,22 @@ pub record IsPair (texts unsigned : List (List ℕ)) (part : Part) (pair : Pair)
 abbrev pub is_alone : Pair → Bool
 is_alone pair = pair.count == 1
 
--- what the channels have in common for which the file is given
 abbrev pub shared_in : Pair → Option Shared
 shared_in pair = shared_by (form pair.format) pair.count
 
--- the file is for one channel alone, and is given for several
+-- the file is given for several channels, but its format is for one
 abbrev pub is_single : Pair → Bool
 is_single pair = not (is_alone pair) && is_none (shared_in pair)
 
--- a channel has something else in common with the others of its file than the one before it
+-- the formats of a channel and the one before it in its file differ
 pub record IsUnlike (last pair : Pair) : Type 0 where
   pub later : 0 < pair.place
   pub other : shared_in pair ≢ shared_in last
 
--- no file that is given for several channels is for one alone
 abbrev pub AreShared : List Pair → Type 0
 AreShared pairs = All (λ p. is_single p ≡ false) pairs
 
--- some file is; or it has another format for one channel than for the one before it
+-- some file has, or its formats differ
 abbrev pub IsUnshared : List Pair → FormatStop → Type 0
 IsUnshared pairs (Alone file) = Any (λ p. (p.file.now ≡ file.now) × (is_single p ≡ true)) pairs
 IsUnshared pairs (Unlike file channel) = (k : ℕ) × (last pair : Pair) × (get_or pairs k last ≡ last) × (get_or pairs (suc k) pair ≡ pair) × (suc k < length pairs) × (pair.file.now ≡ file.now) × (pair.channel.now ≡ channel.now) × IsUnlike last pair
@@ -74,21 +71,19 @@ IsUnshared pairs (NoUse channel) = ⊥
 IsUnshared pairs (Twice channel) = ⊥
 IsUnshared pairs (Head file fault) = ⊥
 
--- each text has an `=`, and these are the pairs of the channels that they name, in order
+-- each text has an `=`, and these are the pairs of its channels, in order
 pub record AreSaid (formats unsigned texts : List (List ℕ)) (pairs : List Pair) : Type 0 where
   pub said : All HasEquals texts
   pub each : AllZip (IsPair formats unsigned) (flat_map parts texts) pairs
 
--- and the files can have them
+-- and their files can have these channels
 pub record ArePairs (formats unsigned texts : List (List ℕ)) (pairs : List Pair) : Type 0 where
   pub said : AreSaid formats unsigned texts pairs
   pub shared : AreShared pairs
 
--- some text of an option has no `=`
 abbrev pub IsNoPair : List ℕ → List (List ℕ) → List ℕ → List ℕ → Type 0
 IsNoPair name texts option text = (option ≡ name) × Contains texts text × (HasEquals text → ⊥)
 
--- some text of this option has no `=`, or one of the formats is none, or memory was refused
 abbrev pub IsUnsaid : List (List ℕ) → List ℕ → List (List ℕ) → Stop → Type 0
 IsUnsaid formats name texts (NoPair option text) = IsNoPair name texts option.now text.now
 IsUnsaid formats name texts (Format stop) = IsNoFormat formats stop
@@ -114,17 +109,16 @@ IsUnpaired formats unsigned name texts (Words fault) = ⊥
 abbrev pub firsts : List Pair → List Pair
 firsts pairs = filter (λ (p : Pair). p.place == 0) pairs
 
--- channels that stand side by side in one file: the first, and all of them
+-- the channels side by side in one file, and the first of them
 pub record Group : Type 0 where
   pub first : Pair
   pub pairs : List Pair
 
--- the first of these, and those behind it that have the same file
+-- the first pair, and those after it with the same file
 abbrev pub group_in : List Pair → List Pair
 group_in [] = []
 group_in (p ∷ ps) = take p.count (p ∷ ps)
 
--- the files of several channels, each with these
 abbrev pub begins : Pair → Bool
 begins pair = (pair.place == 0) && not (is_alone pair)
 
@@ -139,42 +133,40 @@ is_grouped pair = not (is_alone pair)
 abbrev pub in_order : List Pair → List Pair
 in_order pairs = filter is_alone pairs ++ filter is_grouped pairs
 
--- the channels of pairs, and their files
 abbrev pub channels_of : List Pair → List (List ℕ)
 channels_of pairs = map (λ (p : Pair). p.channel.now) pairs
 
 abbrev pub files_of : List Pair → List (List ℕ)
 files_of pairs = map (λ (p : Pair). p.file.now) pairs
 
--- how many pairs name standard input, or standard output
+-- how many pairs name standard input or output
 abbrev pub count_standard : List Pair → ℕ
 count_standard pairs = count_by (λ (p : Pair). bytes_eq p.file.now standard) pairs
 
--- standard input is named more than once, by the file of the description and by pairs
+-- the description's file and the pairs name standard input more than once
 abbrev pub is_named_twice : List ℕ → List Pair → Bool
 is_named_twice file pairs = nat_lt (if bytes_eq file standard then 0 else 1) (count_standard pairs)
 
--- a channel of this name is among these pairs
 abbrev pub has_channel : List Pair → List ℕ → Bool
 has_channel pairs name = list_any (λ (p : Pair). bytes_eq p.channel.now name) pairs
 
--- what is said of the files of a channel of this name is of use beside these pairs
+-- a format for this channel is of use to some pair
 abbrev pub is_of_use : List Pair → List Pair → List ℕ → Bool
 is_of_use inputs outputs name = (bytes_eq name all_channels || has_channel inputs name) || has_channel outputs name
 
--- a text says how files have tokens, for a channel of these pairs or for all
+-- a text is a format for a channel of these pairs or for all
 pub record IsUsable (inputs outputs : List Pair) (text : List ℕ) : Type 0 where
   pub has : HasEquals text
   pub says : Form
   pub said : format_said (after_first is_equals text) ≡ Ok says
   pub of_use : is_of_use inputs outputs (before_first is_equals text) ≡ true
 
--- each of these texts does, and no channel is named twice
+-- each of these texts is, and no channel is named twice
 pub record AreUsable (inputs outputs : List Pair) (texts : List (List ℕ)) : Type 0 where
   pub each : All (IsUsable inputs outputs) texts
   pub once : named_twice texts ≡ None
 
--- why they do not
+-- why they are not
 abbrev pub IsUseless : List (List ℕ) → List Pair → List Pair → FormatStop → Type 0
 IsUseless texts inputs outputs (Unknown fault) = IsNoFormat texts (Unknown fault)
 IsUseless texts inputs outputs (NoUse channel) = (text : List ℕ) × Contains texts text × (channel.now ≡ before_first is_equals text) × (is_of_use inputs outputs channel.now ≡ false)

@@ -1,4 +1,4 @@
--- What is asked for, and the files that are read for it.
+-- A command's request, and the files read for it.
 use Rattle.std.specs.Prelude.{◌≡◌, ◌==◌, ◌&&◌, ◌||◌, ◌<◌, ◌⊎◌, not, ℕ, codes, Bool, false, true, List, length, map, Option, Some, IfSome, Result, Ok, Err}
 use Rattle.std.specs.List.{AllZip, Any}
 use Rattle.kpn_model.specs.declared.kinds.Card.{Card}
@@ -31,7 +31,7 @@ use Rattle.hox_files.specs.Formats.{is_named}
 use Rattle.hox_files.specs.Pairs.{ArePairs, AreUsable, IsUnpaired, IsUnusable, channels_of, count_standard, firsts, is_named_twice}
 use Rattle.hox_files.specs.Uses.{AreApart, IsMisuse, Used, uses_in}
 
--- what a command wants of the network of a description, as contracts see it
+-- what a command wants, as contracts see it
 pub record Want : Type 0 where
   pub file : List ℕ
   pub workers : ℕ
@@ -44,36 +44,34 @@ pub record Want : Type 0 where
 abbrev pub want_of : Wanted → Want
 want_of wanted = record { file = wanted.file.now; workers = wanted.workers; budget = wanted.budget; show = map (λ s. s.now) wanted.show.now; formats = map (λ s. s.now) wanted.formats.now; unsigned = map (λ s. s.now) wanted.unsigned.now; is_quiet = wanted.is_quiet }
 
--- something is told on standard output, unless nothing is to be told, or a stream goes there
+-- a report goes to standard output, unless the command is quiet, or a stream goes there
 abbrev pub is_told : Bool → List Pair → Bool
 is_told is_quiet outputs = not is_quiet && (count_standard outputs == 0)
 
--- the uses of files that are asked for
+-- the uses of files in a request
 abbrev pub uses_asked : Want → List Pair → List Pair → List Used
 uses_asked want tokens outputs = uses_in Tokens want.file tokens (firsts outputs) (is_told want.is_quiet outputs)
 
--- why a file could not be read, of which these are the bytes, if they are known
+-- why reading a file failed; these are its bytes, if known
 abbrev pub IsErrorIn : Option (List ℕ) → ReadError → Type 0
 IsErrorIn known (Failed error) = Unit {0}
 IsErrorIn known TooLong = IfSome known (λ bytes. LONGEST_FILE < length bytes)
 IsErrorIn known NoMemory = Unit {0}
 
--- how the words of a channel are shown
 abbrev pub shown_as : List (List ℕ) → List ℕ → StreamAs Decimals
 shown_as unsigned channel = record { channel = channel; written = record { digits = 0; is_unsigned = is_named unsigned channel } }
 
--- how the stream of a channel is written to its file
 abbrev pub written_as : Pair → StreamAs Layout
 written_as pair = record { channel = pair.channel.now; written = layout_of (form pair.format) }
 
--- what is asked for besides tokens
+-- the request besides tokens
 pub record AsksRest (want : Want) (outputs : List Pair) (request : Request) : Type 0 where
   pub workers : request.workers ≡ want.workers
   pub budget : request.budget ≡ want.budget
   pub show : request.show ≡ map (shown_as want.unsigned) want.show
   pub outputs_are : request.outputs ≡ map written_as outputs
 
--- the tokens of a channel are those of the body of these bytes of its file
+-- the tokens of a channel are in the body of its file's bytes
 pub record IsFileOf (pair : Pair) (bytes : List ℕ) (file : TokenFile) : Type 0 where
   pub channel : file.channel ≡ pair.channel.now
   pub body : Body
@@ -82,7 +80,7 @@ pub record IsFileOf (pair : Pair) (bytes : List ℕ) (file : TokenFile) : Type 0
   pub bytes_are : file.bytes ≡ body_bytes body bytes
   pub rate : file.rate ≡ body.rate
 
--- what stands before its tokens is refused, or memory was
+-- what precedes its tokens is faulty, or out of memory
 abbrev pub IsHeadFault : Pair → List ℕ → FormatStop → Type 0
 IsHeadFault pair bytes (Head file fault) = (file.now ≡ pair.file.now) × IsBodyResult (form pair.format) pair.place pair.count bytes true (Err fault)
 IsHeadFault pair bytes (Unknown fault) = ⊥
@@ -101,9 +99,8 @@ IsNoFileOf pair bytes (Unread file error) = ⊥
 IsNoFileOf pair bytes (Refused refusal) = ⊥
 IsNoFileOf pair bytes (Words fault) = ⊥
 
--- the bytes of each file are given, if they are known
+-- the contents of each file, if known
 module _ (contents : List ℕ → Option (List ℕ)) where
-  -- these are the bytes of the file of a pair, if they are known
   abbrev pub AreBytesOf : Pair → List ℕ → Type 0
   AreBytesOf pair bytes = IfSome (contents pair.file.now) (λ known. bytes ≡ known)
 
@@ -111,20 +108,18 @@ module _ (contents : List ℕ → Option (List ℕ)) where
   abbrev pub IsRead : Pair → TokenFile → Type 0
   IsRead pair file = (bytes : List ℕ) × AreBytesOf pair bytes × IsFileOf pair bytes file
 
-  -- what is asked for, with what the files of tokens hold
+  -- the request, with the contents of the token files
   pub record IsRequest (want : Want) (tokens outputs : List Pair) (request : Request) : Type 0 where
     pub files : AllZip IsRead tokens request.tokens
     pub rest : AsksRest want outputs request
 
-  -- why the file of this name could not be read
   abbrev pub IsReadError : List ℕ → ReadError → Type 0
   IsReadError name error = IsErrorIn (contents name) error
 
-  -- what stands before the tokens of the file of some pair is refused
   abbrev pub IsHeadless : List Pair → FormatStop → Type 0
   IsHeadless pairs stop = Any (λ p. (bytes : List ℕ) × AreBytesOf p bytes × IsHeadFault p bytes stop) pairs
 
-  -- the file of some pair could not be read, or what stands before its tokens is refused; or memory was refused
+  -- some pair's file can't be read or is faulty before its tokens; or out of memory
   abbrev pub IsUnfetched : List Pair → Stop → Type 0
   IsUnfetched pairs (Unread file error) = Any (λ (p : Pair). p.file.now ≡ file.now) pairs × IsReadError file.now error
   IsUnfetched pairs (Format stop) = IsHeadless pairs stop
@@ -135,9 +130,9 @@ module _ (contents : List ℕ → Option (List ℕ)) where
   IsUnfetched pairs (Refused refusal) = ⊥
   IsUnfetched pairs (Words fault) = ⊥
 
-  -- whether two names, each written or else read, can't be used beside each other, if that is known
+  -- whether two names, each written or else read, can't be used together, if known
   module _ (clash : List ℕ → Bool → List ℕ → Bool → Option Bool) (want : Want) (token_texts output_texts : List (List ℕ)) where
-    -- the texts name channels and files, standard input once at most, the uses of files stand beside each other, and this is asked for
+    -- the texts name channels and files, standard input at most once, no uses clash, and this is the request
     pub record IsAsked (asked : Asked) : Type 0 where
       pub tokens : ArePairs want.formats want.unsigned token_texts asked.tokens.items
       pub outputs : ArePairs want.formats want.unsigned output_texts asked.outputs.items
@@ -153,8 +148,7 @@ module _ (contents : List ℕ → Option (List ℕ)) where
         ⊎ (IsUnpaired want.formats want.unsigned (codes "out") output_texts stop
         ⊎ ((tokens outputs : List Pair) × ArePairs want.formats want.unsigned token_texts tokens × ArePairs want.formats want.unsigned output_texts outputs × IsUnusable want.formats tokens outputs stop))
 
-    -- a text names no file, or no format, or standard input is named twice, or two uses of files can't stand beside each other, or a file could not be
-    -- read, or memory was refused
+    -- why there is no request, for each fault
     abbrev pub IsUnasked : Stop → Type 0
     IsUnasked (NoPair option text) = AreUnpaired (NoPair option text)
     IsUnasked (Format stop) = AreUnpaired (Format stop) ⊎ ((tokens : List Pair) × ArePairs want.formats want.unsigned token_texts tokens × IsHeadless tokens stop)
@@ -166,7 +160,7 @@ module _ (contents : List ℕ → Option (List ℕ)) where
     IsUnasked (Refused refusal) = ⊥
     IsUnasked (Words fault) = ⊥
 
-  -- the description in a file is read, and this comes of it
+  -- the description in a file is read, with this result
   pub record ServesFile {X : Type 0} (named : List ℕ → Option (ℕ × ℕ)) (signature : Card → Option Signature) (gives : Network → Result X Fault → Type 0) (name : List ℕ) (result : Result X Fault) : Type 0 where
     pub has_failed : Bool
     pub serves : Serves named signature gives (contents name) false has_failed result

@@ -1,4 +1,4 @@
--- What comes of the description in a file, and why nothing does.
+-- The result of reading a description from a file.
 use Rattle.std.specs.Prelude.{ℕ, List, Option, Result, Ok, Err}
 use Rattle.kpn_model.specs.declared.kinds.Card.{Card}
 use Rattle.kpn_model.specs.declared.kinds.Signature.{Signature}
@@ -7,11 +7,10 @@ use Rattle.hox_network.specs.declared.request.Fault.{Fault}
 use Rattle.hox_files.specs.declared.stops.Unserved.{Unserved}
 use Rattle.hox_files.specs.Requests.{ServesFile}
 
--- what comes of it, or the fault
 abbrev pub faulty : {X : Type 0} → Result X Unserved → Result X Fault
 faulty (Ok x) = Ok x
 faulty (Err unserved) = Err unserved.fault
 
--- the description in a file is read, and this comes of it
+-- the description in a file is read, with this result
 abbrev pub ServesNamed : {X : Type 0} → (List ℕ → Option (List ℕ)) → (List ℕ → Option (ℕ × ℕ)) → (Card → Option Signature) → (Network → Result X Fault → Type 0) → List ℕ → Result X Unserved → Type 0
 ServesNamed contents named signature gives name result = ServesFile contents named signature gives name (faulty result)

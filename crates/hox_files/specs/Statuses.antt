@@ -1,4 +1,4 @@
--- With what a program exits that stops before it has done what the arguments ask for.
+-- The exit status of a program that does not carry out its command.
 use Rattle.std.specs.Prelude.{if◌then◌else◌}
 use Rattle.kpn_front.specs.declared.status.Status.{Status}
 use Rattle.kpn_front.specs.declared.status.Status.TheVariants.{Success, WrongArguments, Refused as WasRefused, MemoryRefused}

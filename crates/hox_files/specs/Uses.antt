@@ -1,4 +1,4 @@
--- What files are used for, and which uses can't stand beside each other.
+-- The uses of files, and which of them clash.
 use Rattle.std.specs.Prelude.{◌≡◌, ◌<◌, ◌⊎◌, ◌&&◌, ◌++◌, ℕ, Bool, true, false, List, [], ◌∷◌, length, get_or, map, Option, IfSome, if◌then◌else◌}
 use Rattle.std.specs.List.{AllPairs}
 use Rattle.std.specs.Str.{bytes_eq}
@@ -17,7 +17,6 @@ is_written In = false
 is_written Out = true
 is_written Report = true
 
--- the tokens of a channel are read
 abbrev pub gives_tokens : Role → Bool
 gives_tokens Description = false
 gives_tokens Tokens = true
@@ -37,8 +36,8 @@ used u = record { role = u.role; channel = u.channel.now; file = u.file.now }
 abbrev pub used_for : Role → Pair → Used
 used_for role pair = record { role = role; channel = pair.channel.now; file = pair.file.now }
 
--- the description is read, and the tokens of channels, for this role; what goes through channels is written, and what is told, if that
--- goes to standard output
+-- the uses of a command: the description, the inputs in this role, the outputs, and the report if it goes to
+-- standard output
 abbrev pub uses_in : Role → List ℕ → List Pair → List Pair → Bool → List Used
 uses_in role file inputs outputs is_told =
     record { role = Description; channel = []; file = file } ∷ map (used_for role) inputs ++ map (used_for Out) outputs ++ (if is_told then record { role = Report; channel = []; file = standard } ∷ [] else [])
@@ -47,34 +46,31 @@ uses_in role file inputs outputs is_told =
 abbrev pub gives_twice : Used → Used → Bool
 gives_twice u v = gives_tokens u.role && gives_tokens v.role && bytes_eq u.channel v.channel
 
--- both are written to standard output
+-- both write to standard output
 abbrev pub writes_output : Used → Bool
 writes_output u = is_written u.role && bytes_eq u.file standard
 
 abbrev pub writes_output_twice : Used → Used → Bool
 writes_output_twice u v = writes_output u && writes_output v
 
--- whether two names, each written or else read, can't be used beside each other, if that is known
+-- whether two names, each written or else read, can't be used together, if known
 module _ (clash : List ℕ → Bool → List ℕ → Bool → Option Bool) where
   abbrev pub IsFileClash : Bool → Used → Used → Type 0
   IsFileClash is u v = IfSome (clash u.file (is_written u.role) v.file (is_written v.role)) (λ c. is ≡ c)
 
-  -- two uses can stand beside each other: neither gives tokens to the channel of the other, not both are written to standard output,
-  -- and their files don't clash: so what one reads the other does not write, and nothing is written by both
+  -- no clash: they don't read tokens for one channel, don't both write to standard output, and their files
+  -- don't clash
   pub record StandApart (u v : Used) : Type 0 where
     pub channels : gives_twice u v ≡ false
     pub outputs : writes_output_twice u v ≡ false
     pub files : IsFileClash false u v
 
-  -- they can't
   abbrev pub Clashes : Used → Used → Type 0
   Clashes u v = (gives_twice u v ≡ true) ⊎ (writes_output_twice u v ≡ true) ⊎ IsFileClash true u v
 
-  -- each two of these can
   abbrev pub AreApart : List Used → Type 0
   AreApart = AllPairs StandApart
 
-  -- of these one and a later one can't
   pub record IsClash (uses : List Used) (one other : Used) : Type 0 where
     pub first : ℕ
     pub later : ℕ
@@ -84,7 +80,7 @@ module _ (clash : List ℕ → Bool → List ℕ → Bool → Option Bool) where
     pub other_is : get_or uses later other ≡ other
     pub clashing : Clashes one other
 
-  -- two of these can't, or memory was refused
+  -- two of these clash, or out of memory
   abbrev pub IsMisuse : List Used → Stop → Type 0
   IsMisuse uses (Clash one other) = IsClash uses (used one) (used other)
   IsMisuse uses Memory = Unit {0}

@@ -1,4 +1,4 @@
-//! How files have tokens, as the arguments say it.
+//! The formats of files, as the arguments give them.
 ghost use Rattle.std.specs.Prelude.{◌≡◌, ℕ, List, map, IfErr, IfOk, OnOk, IfSome, Some, None, if◌then◌else◌, option_map};
 ghost use Rattle.std.specs.List.{Contains, after_first, before_first};
 ghost use Rattle.hox_format.specs.Forms.{form};
@@ -11,34 +11,33 @@ use crate::stops::Stop;
 use hox_args::channel_and_file;
 use hox_format::{Format, FormatFault, HeadFault, format_of};
 
-/// The name by which all channels are named.
 const ALL: &str = "all";
 
-/// How files have tokens: as texts `CHANNEL=FORMAT` say it, and with the words of these channels unsigned.
+/// The formats of files, as texts `CHANNEL=FORMAT`, and the channels whose words are unsigned.
 #[derive(Clone, Copy, Debug)]
 pub struct Formats<'a, 'b> {
     pub texts: &'b [&'a str],
     pub unsigned: &'b [&'a str],
 }
 
-/// Why it can't be read how a file has tokens.
+/// Why the format of a file is rejected.
 #[derive(Clone, Copy, Debug)]
 pub enum FormatStop<'a> {
     /// A text names no format.
     Unknown(FormatFault<'a>),
-    /// No file is given for this channel, for which a format is named.
+    /// A format is given for this channel, but no file.
     NoUse(&'a str),
-    /// Two formats are named for this channel.
+    /// Two formats are given for this channel.
     Twice(&'a str),
-    /// What stands before the tokens in this file is refused.
+    /// What precedes the tokens in this file is faulty.
     Head { file: &'a str, fault: HeadFault },
-    /// This file is given for several channels, and is for one alone.
+    /// This file is given for several channels, but its format is for one.
     Alone { file: &'a str },
-    /// This file is given for several channels, and for this one has another format than for the one before it.
+    /// This file is given for several channels, and this one's format differs from that of the one before it.
     Unlike { file: &'a str, channel: &'a str },
 }
 
-/// How the file of a channel has tokens.
+/// Returns the format of a channel's file.
 ///
 /// Errors: a text names no format.
 pub fn format_for<'a>(
@@ -55,7 +54,6 @@ pub fn format_for<'a>(
     }
 }
 
-/// A format, with words unsigned if that is asked for.
 fn marked<'a>(is_unsigned: bool, format: Format<'a>) -> Format<'a>
     ensures { form result ≡ marked is_unsigned (form format.entry) }
 {
@@ -66,7 +64,7 @@ fn marked<'a>(is_unsigned: bool, format: Format<'a>) -> Format<'a>
     }
 }
 
-/// What is said of the file of a channel: by its name, or of all files, or else by the file's own name.
+/// Returns the format for a channel: the one given for it, or for all, or else the default of the file's name.
 fn said_for<'a>(texts: &[&'a str], channel: &str, file: &str) -> Result<Format<'a>, FormatFault<'a>>
     ensures said { seen result ≡ said_for (map (λ t. t.now) texts.now) channel.now file.now }
     ensures fault { IfErr result (λ e. IsNoFormat (map (λ t. t.now) texts.now) (FormatStop.Unknown e)) }
@@ -77,7 +75,6 @@ fn said_for<'a>(texts: &[&'a str], channel: &str, file: &str) -> Result<Format<'
     }
 }
 
-/// What is said of all files, or else by a file's own name.
 fn said_of_all<'a>(texts: &[&'a str], file: &str) -> Result<Format<'a>, FormatFault<'a>>
     ensures said { seen result ≡ said_of_all (map (λ t. t.now) texts.now) file.now }
     ensures fault { IfErr result (λ e. IsNoFormat (map (λ t. t.now) texts.now) (FormatStop.Unknown e)) }
@@ -88,7 +85,7 @@ fn said_of_all<'a>(texts: &[&'a str], file: &str) -> Result<Format<'a>, FormatFa
     }
 }
 
-/// What the first text for a channel says of its file.
+/// Returns the format in the first text for this channel.
 fn format_text<'a>(texts: &[&'a str], channel: &str) -> Option<&'a str>
     ensures is { option_map (λ t. t.now) result ≡ format_text channel.now (map (λ t. t.now) texts.now) }
     ensures among { IfSome result (λ format. (text : List ℕ) × Contains (map (λ t. t.now) texts.now) text × (format.now ≡ after_first is_equals text)) }
@@ -101,7 +98,6 @@ fn format_text<'a>(texts: &[&'a str], channel: &str) -> Option<&'a str>
     None
 }
 
-/// What a text says of the file of a channel, if it is of this channel.
 fn format_in<'a>(text: &'a str, channel: &str) -> Option<&'a str>
     ensures { option_map (λ t. t.now) result ≡ (if is_text_of channel.now text.now then Some (after_first is_equals text.now) else None) }
 {
@@ -111,17 +107,16 @@ fn format_in<'a>(text: &'a str, channel: &str) -> Option<&'a str>
     }
 }
 
-/// Whether a channel is named, or all are.
+/// Returns whether a channel is among these names, or `all` is.
 pub fn is_named(names: &[&str], channel: &str) -> bool
     ensures { result ≡ is_named (map (λ s. s.now) names.now) channel.now }
 {
     names.iter().any(|name| *name == channel || *name == ALL)
 }
 
-/// Checks that each text says how files have tokens, for a channel of these pairs or for all, and of each channel and
-/// of all one at most.
+/// Checks that each text is a format for a channel of these pairs or for `all`, and that none is given twice.
 ///
-/// Errors: the first text that does not; or else the first channel of which a later text says it too.
+/// Errors: the first text that is not; else the first channel that a later text repeats.
 pub fn check_formats<'a>(
     texts: &[&'a str],
     inputs: &[Pair<'a>],
@@ -139,7 +134,6 @@ pub fn check_formats<'a>(
     }
 }
 
-/// The first channel of which two texts say how its file has tokens.
 fn named_twice<'a>(texts: &[&'a str]) -> Option<&'a str>
     ensures { option_map (λ t. t.now) result ≡ named_twice (map (λ t. t.now) texts.now) }
 {
@@ -152,7 +146,6 @@ fn named_twice<'a>(texts: &[&'a str]) -> Option<&'a str>
     None
 }
 
-/// The channel of a text.
 fn channel_in(text: &str) -> &str
     ensures { result.now ≡ before_first is_equals text.now }
 {
@@ -162,7 +155,6 @@ fn channel_in(text: &str) -> &str
     }
 }
 
-/// Checks one text of the option.
 fn check_format<'a>(
     text: &'a str,
     inputs: &[Pair<'a>],
@@ -184,14 +176,12 @@ fn check_format<'a>(
     }
 }
 
-/// Whether what is said of the files of a channel of this name is of use beside these pairs.
 fn is_of_use(inputs: &[Pair<'_>], outputs: &[Pair<'_>], name: &str) -> bool
     ensures { result ≡ is_of_use inputs.now outputs.now name.now }
 {
     name == ALL || has_channel(inputs, name) || has_channel(outputs, name)
 }
 
-/// Whether a channel of this name is among pairs.
 fn has_channel(pairs: &[Pair<'_>], name: &str) -> bool
     ensures { result ≡ has_channel pairs.now name.now }
 {

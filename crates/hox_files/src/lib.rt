@@ -1,4 +1,4 @@
-//! Which files a command of `hox` names, what of them it reads and writes, and what is wrong with them.
+//! The files that a command of `hox` names, reads and writes, and what may be wrong with them.
 #![tactic(auto)]
 
 pub mod files;

@@ -12,11 +12,11 @@ use hox_args::channel_and_file;
 use hox_format::{Format, Shared, shared_by};
 use std::alloc::{AllocError, Global};
 
-/// The name of standard input, and of standard output.
+/// The name of standard input and output.
 pub const STANDARD: &str = "-";
 
-/// A channel, the name of a file for its tokens, and how the file has them; and which of the channels it is that the
-/// file is given for, counted from 0, and how many these are.
+/// A channel, its file and the file's format; and the place of the channel, counted from 0, among the `count`
+/// channels that the file is given for.
 #[derive(Clone, Copy, Debug)]
 pub struct Pair<'a> {
     pub channel: &'a str,
@@ -35,11 +35,11 @@ impl Pair<'_> {
     }
 }
 
-/// Returns the pairs that the texts of an option say, each as `CHANNEL=FILE`, or `CHANNEL,..=FILE` for several channels
-/// side by side in one file, in order.
+/// Parses the texts of an option, each `CHANNEL=FILE`, or `CHANNEL,..=FILE` for several channels side by side
+/// in one file, and returns the pairs in order.
 ///
-/// Errors: the first text that has no `=`, or of whose file no format can be told; or the first file that is given for
-/// several channels and is for one alone, or has another format for one of them; or memory was refused.
+/// Errors: the first text without `=`, or whose file gets no format; the first file given for several
+/// channels whose format is for one, or differs between them; or out of memory.
 pub fn pairs_of<'a>(
     alloc: Global,
     option: &'a str,
@@ -56,7 +56,6 @@ pub fn pairs_of<'a>(
     }
 }
 
-/// The pairs that the texts of an option say, whether or not the files can have them.
 fn all_pairs<'a>(
     alloc: Global,
     option: &'a str,
@@ -77,7 +76,7 @@ fn all_pairs<'a>(
     Ok(pairs)
 }
 
-/// The pairs that a text of an option says: one for each of the channels before the first `=`.
+/// Parses a text: one pair for each of the channels before the first `=`.
 fn pairs_in<'a>(
     alloc: Global,
     option: &'a str,
@@ -97,14 +96,12 @@ fn pairs_in<'a>(
     pairs_for(alloc, names.as_slice(), file, formats)
 }
 
-/// Names, with commas between them.
 fn names_in<'a>(alloc: Global, text: &'a str) -> Result<Vec<&'a str>, AllocError>
     ensures { IfOk result (λ v. map (λ s. s.now) v.items ≡ pieces text.now) }
 {
     text.split(',').collect(alloc)
 }
 
-/// The pairs of channels that stand side by side in a file.
 fn pairs_for<'a>(
     alloc: Global,
     names: &[&'a str],
@@ -127,7 +124,6 @@ fn pairs_for<'a>(
     Ok(pairs)
 }
 
-/// The pair of the channel at a place among those of a file.
 fn pair_at<'a>(
     names: &[&'a str],
     place: usize,
@@ -148,9 +144,7 @@ fn pair_at<'a>(
     })
 }
 
-/// Checks of each file that is given for several channels that it has them all in one way.
-///
-/// Errors: a file is for one channel alone, or has another format for one channel than for the one before it.
+/// Checks that each file given for several channels has one format for all.
 fn check_shared<'a>(pairs: &[Pair<'a>]) -> Result<(), FormatStop<'a>>
     ensures ok { OnOk result (AreShared pairs.now) }
     ensures fault { IfErr result (IsUnshared pairs.now) }
@@ -170,28 +164,26 @@ fn check_shared<'a>(pairs: &[Pair<'a>]) -> Result<(), FormatStop<'a>>
     Ok(())
 }
 
-/// Whether a file is for one channel alone that is given for several.
 fn is_single(pair: &Pair<'_>) -> bool
     ensures { result ≡ is_single pair.now }
 {
     !pair.is_alone() && shared_in(pair).is_none()
 }
 
-/// Whether a file has another format for a channel than for the one before it.
 fn is_unlike(last: &Pair<'_>, pair: &Pair<'_>) -> bool
     ensures { result ≡ true → IsUnlike last.now pair.now }
 {
     pair.place > 0 && shared_in(pair) != shared_in(last)
 }
 
-/// What the channels have in common for which the file of a pair is given.
+/// Returns what the channels of a pair's file share.
 pub fn shared_in(pair: &Pair<'_>) -> Option<Shared>
     ensures { result ≡ shared_in pair.now }
 {
     shared_by(&pair.format, pair.count)
 }
 
-/// The first pair of each file.
+/// Returns the first pair of each file.
 pub fn firsts_of<'a>(alloc: Global, pairs: &[Pair<'a>]) -> Result<Vec<Pair<'a>>, AllocError>
     ensures { IfOk result (λ v. v.items ≡ firsts pairs.now) }
 {
@@ -204,7 +196,7 @@ pub fn firsts_of<'a>(alloc: Global, pairs: &[Pair<'a>]) -> Result<Vec<Pair<'a>>,
     Ok(firsts)
 }
 
-/// Those that have a file alone, and then those that stand side by side in one.
+/// Returns the pairs whose file has one channel, and then the others.
 pub fn in_order<'a>(alloc: Global, pairs: &[Pair<'a>]) -> Result<Vec<Pair<'a>>, AllocError>
     ensures { IfOk result (λ v. v.items ≡ in_order pairs.now) }
 {
@@ -214,7 +206,6 @@ pub fn in_order<'a>(alloc: Global, pairs: &[Pair<'a>]) -> Result<Vec<Pair<'a>>, 
     Ok(ordered)
 }
 
-/// Those of these pairs that have a file alone.
 fn alone_among<'a>(alloc: Global, pairs: &[Pair<'a>]) -> Result<Vec<Pair<'a>>, AllocError>
     ensures { IfOk result (λ v. v.items ≡ filter is_alone pairs.now) }
 {
@@ -227,7 +218,6 @@ fn alone_among<'a>(alloc: Global, pairs: &[Pair<'a>]) -> Result<Vec<Pair<'a>>, A
     Ok(alone)
 }
 
-/// Those of these pairs that stand side by side in a file.
 fn grouped_among<'a>(alloc: Global, pairs: &[Pair<'a>]) -> Result<Vec<Pair<'a>>, AllocError>
     ensures { IfOk result (λ v. v.items ≡ filter is_grouped pairs.now) }
 {
@@ -240,35 +230,35 @@ fn grouped_among<'a>(alloc: Global, pairs: &[Pair<'a>]) -> Result<Vec<Pair<'a>>,
     Ok(grouped)
 }
 
-/// The name of a file, or of standard input if there is none.
+/// Returns the file's name, or that of standard input if there is none.
 pub fn name_of<'a>(file: Option<&'a str>) -> &'a str
     ensures { result.now ≡ unwrap_or (option_map (λ s. s.now) file.entry) standard }
 {
     file.unwrap_or(STANDARD)
 }
 
-/// Returns how many pairs name standard input, or standard output.
+/// Returns how many pairs name standard input or output.
 pub fn count_standard(pairs: &[Pair<'_>]) -> usize
     ensures { result ≡ count_standard pairs.now }
 {
     pairs.iter().filter(|pair| pair.file == STANDARD).count()
 }
 
-/// Whether pairs name standard output.
+/// Returns whether pairs name standard output.
 pub fn is_output_named(pairs: &[Pair<'_>]) -> bool
     ensures { result ≡ nat_lt 0 (count_standard pairs.now) }
 {
     count_standard(pairs) > 0
 }
 
-/// Whether pairs name standard output more than once.
+/// Returns whether pairs name standard output more than once.
 pub fn is_written_twice(pairs: &[Pair<'_>]) -> bool
     ensures { result ≡ nat_lt 1 (count_standard pairs.now) }
 {
     count_standard(pairs) > 1
 }
 
-/// Returns whether standard input is named more than once, by the file of the description and by pairs.
+/// Returns whether the description's file and the pairs name standard input more than once.
 pub fn is_named_twice(file: &str, pairs: &[Pair<'_>]) -> bool
     ensures { result ≡ is_named_twice file.now pairs.now }
 {

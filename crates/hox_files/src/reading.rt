@@ -1,4 +1,4 @@
-//! What is asked for, with the files of tokens.
+//! Reads the files of tokens that a command names.
 ghost use Rattle.std.specs.Prelude.{◌≡◌, ◌<◌, IfOk, IfErr, IfSome, false, map, length, get_or};
 ghost use Rattle.std.specs.List.{AllZip};
 ghost use Rattle.hox_files.specs.Pairs.{channels_of};
@@ -20,9 +20,8 @@ use kpn_tokens::{Decimals, Layout};
 use std::alloc::{AllocError, Global};
 use std::io;
 
-/// What a command wants of the network of a description: the name of the description's file, how many workers, which
-/// budget in place of the description's, the streams of which channels in the report, how files have tokens, with the
-/// words of which channels unsigned, and that nothing is told but what goes through channels.
+/// What a command wants: the description's file, the number of workers, the budget that overrides the description's,
+/// the channels to show, the formats of files, the unsigned channels, and whether to print only streams.
 #[derive(Clone, Copy, Debug)]
 pub struct Wanted<'a, 'b> {
     pub file: &'a str,
@@ -34,7 +33,7 @@ pub struct Wanted<'a, 'b> {
     pub is_quiet: bool,
 }
 
-/// Why a file could not be read: for this reason of the system's; or it has more than 64 MiB; or memory was refused.
+/// Why reading a file failed: the system's reason; more than 64 MiB; or out of memory.
 #[derive(Clone, Copy, Debug)]
 pub enum ReadError {
     Failed(io::Error),
@@ -42,8 +41,7 @@ pub enum ReadError {
     Memory,
 }
 
-/// What is asked of a network, with the tokens of files that were read; and the files of its first tokens, and of
-/// its streams, each beside its channel.
+/// The request for a network, with the tokens that were read; and the pairs of its token files and output files.
 #[derive(Drop)]
 pub struct Asked<'a> {
     pub tokens: Vec<Pair<'a>>,
@@ -51,11 +49,10 @@ pub struct Asked<'a> {
     pub request: Request,
 }
 
-/// Reads what is asked for, with the files of tokens.
+/// Reads the files of tokens, and returns the request.
 ///
-/// Errors: a text that names no channel and file, or no format; a format that is of no use; standard input that is
-/// named twice; two uses of files that can't stand beside each other; the first file that can't be read, or of which
-/// what stands before its tokens is refused; or memory was refused.
+/// Errors: a text without channel and file, or without format; a format for no file; standard input named twice; two
+/// uses of files that clash; the first file that can't be read or is faulty before its tokens; or out of memory.
 pub fn asked_of<'a, S: FileSystem>(
     alloc: Global,
     files: &S,
@@ -94,14 +91,13 @@ pub fn asked_of<'a, S: FileSystem>(
     })
 }
 
-/// Whether something is told on standard output: unless nothing is to be told, or a stream goes there.
+/// Returns whether a report goes to standard output: unless the command is quiet, or a stream goes there.
 fn is_told(is_quiet: bool, outputs: &[Pair<'_>]) -> bool
     ensures { result ≡ is_told is_quiet outputs.now }
 {
     !is_quiet && count_standard(outputs) == 0
 }
 
-/// What is asked for, with the tokens of these files.
 fn request_of<'a, S: FileSystem>(
     alloc: Global,
     files: &S,
@@ -119,7 +115,6 @@ fn request_of<'a, S: FileSystem>(
     }
 }
 
-/// What is asked for, with the tokens of files that were read.
 fn request_with(
     alloc: Global,
     wanted: Wanted<'_, '_>,
@@ -140,7 +135,6 @@ fn request_with(
     })
 }
 
-/// The channels to show, with how the words of each are written.
 fn shown_by(
     alloc: Global,
     unsigned: &[&str],
@@ -155,7 +149,6 @@ fn shown_by(
     Ok(shown)
 }
 
-/// The channels of pairs, with how the file of each has tokens.
 fn written_by(alloc: Global, pairs: &[Pair<'_>]) -> Result<Vec<StreamAs<Layout>>, AllocError>
     ensures { IfOk result (λ v. v.items ≡ map written_as pairs.now) }
 {
@@ -166,7 +159,6 @@ fn written_by(alloc: Global, pairs: &[Pair<'_>]) -> Result<Vec<StreamAs<Layout>>
     Ok(written)
 }
 
-/// The channel of a pair, with how its file has tokens.
 fn written_as(alloc: Global, pair: &Pair<'_>) -> Result<StreamAs<Layout>, AllocError>
     ensures { IfOk result (λ stream. stream ≡ written_as pair.now) }
 {
@@ -176,7 +168,6 @@ fn written_as(alloc: Global, pair: &Pair<'_>) -> Result<StreamAs<Layout>, AllocE
     })
 }
 
-/// A channel to show, with how its words are written: with signs, unless it or all channels are named here.
 fn shown_as(
     alloc: Global,
     unsigned: &[&str],
@@ -193,7 +184,7 @@ fn shown_as(
     })
 }
 
-/// The names of the channels of pairs.
+/// Returns the names of the channels of pairs.
 pub fn names_of(alloc: Global, pairs: &[Pair<'_>]) -> Result<Vec<Text>, AllocError>
     ensures { IfOk result (λ v. v.items ≡ channels_of pairs.now) }
 {
@@ -204,7 +195,6 @@ pub fn names_of(alloc: Global, pairs: &[Pair<'_>]) -> Result<Vec<Text>, AllocErr
     Ok(names)
 }
 
-/// The files of tokens, which are read.
 fn token_files<'a, S: FileSystem>(
     alloc: Global,
     files: &S,
@@ -223,7 +213,6 @@ fn token_files<'a, S: FileSystem>(
     Ok(read)
 }
 
-/// The file of tokens of the pair at place `k`, which is read.
 fn token_file<'a, S: FileSystem>(
     alloc: Global,
     files: &S,
@@ -245,7 +234,6 @@ fn token_file<'a, S: FileSystem>(
     }
 }
 
-/// The file of tokens of a pair, which has these bytes.
 fn file_of<'a>(alloc: Global, pair: Pair<'a>, bytes: Vec<u8>) -> Result<TokenFile, Stop<'a>>
     ensures ok { IfOk result (IsFileOf pair.entry bytes.items) }
     ensures fault { IfErr result (IsNoFileOf pair.entry bytes.items) }
@@ -268,7 +256,6 @@ fn file_of<'a>(alloc: Global, pair: Pair<'a>, bytes: Vec<u8>) -> Result<TokenFil
     }
 }
 
-/// A file of tokens for a channel, with the body of these bytes.
 fn file_with(
     alloc: Global,
     channel: &str,
@@ -285,7 +272,7 @@ fn file_with(
     })
 }
 
-/// The bytes of a body alone: those of the file themselves, if it is the whole file.
+/// Returns the bytes of a body, without copying them if it is the whole file.
 fn body_alone(alloc: Global, body: &Body, bytes: Vec<u8>) -> Result<Vec<u8>, AllocError>
     ensures { IfOk result (λ alone. alone.items ≡ body_bytes body.now bytes.items) }
 {
@@ -295,7 +282,9 @@ fn body_alone(alloc: Global, body: &Body, bytes: Vec<u8>) -> Result<Vec<u8>, All
     Vec::from_slice(alloc, body_of(bytes.as_slice(), body))
 }
 
-/// The bytes of a file.
+/// Reads a file.
+///
+/// Errors: see [`ReadError`].
 pub fn read_file<S: FileSystem>(alloc: Global, files: &S, name: &str) -> Result<Vec<u8>, ReadError>
     ensures ok { IfOk result (λ v. IfSome (S.contents files.now name.now) (λ bytes. v.items ≡ bytes)) }
     ensures fault { IfErr result (IsReadError (S.contents files.now) name.now) }
@@ -306,7 +295,6 @@ pub fn read_file<S: FileSystem>(alloc: Global, files: &S, name: &str) -> Result<
     }
 }
 
-/// The bytes of a file that was opened.
 fn read_input<I: Source + Drop>(alloc: Global, input: I) -> Result<Vec<u8>, ReadError>
     ensures ok { IfOk result (λ v. IfSome (I.remaining input) (λ bytes. v.items ≡ bytes)) }
     ensures fault { IfErr result (IsErrorIn (I.remaining input)) }
@@ -320,7 +308,6 @@ fn read_input<I: Source + Drop>(alloc: Global, input: I) -> Result<Vec<u8>, Read
     }
 }
 
-/// A text of one's own.
 fn text_of(alloc: Global, text: &str) -> Result<Text, AllocError>
     ensures { IfOk result (λ own. own ≡ text.now) }
 {

@@ -1,4 +1,4 @@
-//! Why what the arguments ask for is not done.
+//! Why a command is not carried out.
 ghost use Rattle.std.specs.Prelude.{◌≡◌, Some};
 ghost use Rattle.hox_network.specs.Preparing.{refusal};
 ghost use Rattle.hox_files.specs.Statuses.{status_of_format, status_of_stop, status_of_unread};
@@ -13,31 +13,31 @@ use kpn_net::NetFault;
 use std::alloc::Global;
 use std::io;
 
-/// Why what the arguments ask for is not done. Nothing is written then.
+/// Why a command is not carried out. Nothing is written then.
 #[derive(Drop)]
 pub enum Stop<'a> {
-    /// The arguments are refused, or they ask for help or the version.
+    /// The arguments are wrong, or ask for help or the version.
     Words(WordsFault),
     /// A text of this option, which takes `CHANNEL=FILE`, has no `=`.
     NoPair { option: &'a str, text: &'a str },
     /// Standard input is named more than once.
     InputTwice,
-    /// Two uses of files can't stand beside each other, in the order of the uses: the description, what is read, what
-    /// is written and what is told. The tokens of one channel are read from two files; or both are written to standard
-    /// output; or they are one file, which is written, or one source that gives its bytes once.
+    /// Two uses of files clash, in the order description, files read, files written, report. The tokens of
+    /// one channel are read from two files; or both uses write to standard output; or they share a file that
+    /// is written, or a source that gives its bytes once.
     Clash { one: Use<'a>, other: Use<'a> },
-    /// It can't be read how a file has tokens.
+    /// The format of a file is rejected.
     Format(FormatStop<'a>),
-    /// The file of this name, which should have a channel's tokens, could not be read.
+    /// The file for a channel's tokens can't be read.
     Unread { file: &'a str, error: ReadError },
-    /// What is asked for is refused.
+    /// The request failed.
     Refused(Refusal<'a>),
-    /// Memory was refused.
+    /// Out of memory.
     Memory,
 }
 
-/// The file of a description, what is asked of the network that it describes, and why that is not done; and the
-/// system's reason, if the file could not be read. If it could be, and its fault is `Input`, it is too long.
+/// The description's file, the request, and why it failed; and the system's reason, if the file can't be
+/// read. The fault `Input` without such a reason means that the file is too long.
 #[derive(Drop)]
 pub struct Refusal<'a> {
     pub file: &'a str,
@@ -46,7 +46,7 @@ pub struct Refusal<'a> {
     pub error: Option<io::Error>,
 }
 
-/// Why nothing comes of a description, and the system's reason, if it could not be read.
+/// Why a description was not served, and the system's reason, if its file can't be read.
 #[derive(Drop)]
 pub struct Unserved {
     pub fault: Fault,
@@ -54,7 +54,7 @@ pub struct Unserved {
 }
 
 impl<'a> Stop<'a> {
-    /// Returns the exit status of a program that stops so.
+    /// Returns the program's exit status.
     pub fn status(&self) -> Status
         ensures { result ≡ status_of_stop self.now }
     {
@@ -69,7 +69,6 @@ impl<'a> Stop<'a> {
     }
 }
 
-/// The exit status of a program that can't read how a file has tokens.
 fn status_of_format(stop: FormatStop<'_>) -> Status
     ensures { result ≡ status_of_format stop.entry }
 {
@@ -83,7 +82,6 @@ fn status_of_format(stop: FormatStop<'_>) -> Status
     }
 }
 
-/// The exit status of a program that could not read a file.
 fn status_of_unread(error: ReadError) -> Status
     ensures { result ≡ status_of_unread error }
 {
@@ -93,7 +91,7 @@ fn status_of_unread(error: ReadError) -> Status
     }
 }
 
-/// Nothing comes of a description that can't be opened, for this reason.
+/// Returns the fault of a description that can't be opened, for this reason.
 pub fn unopened(alloc: Global, error: io::Error) -> Unserved
     ensures { refusal result.fault ≡ Some NetFault.Input }
 {

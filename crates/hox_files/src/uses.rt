@@ -1,4 +1,4 @@
-//! What files are used for, and which uses can't stand beside each other.
+//! The uses of files, and which of them clash.
 ghost use Rattle.std.specs.Prelude.{◌≡◌, ◌++◌, true, false, map, IfErr, IfOk, IfSome, None, OnOk};
 ghost use Rattle.std.specs.List.{All, Contains};
 ghost use Rattle.hox_files.specs.Uses.{AreApart, Clashes, IsClash, IsMisuse, StandApart, gives_tokens, gives_twice, is_written, used, used_for, uses_in, writes_output, writes_output_twice};
@@ -8,18 +8,18 @@ use crate::pairs::{Pair, STANDARD};
 use crate::stops::Stop;
 use std::alloc::{AllocError, Global};
 
-/// What a file is used for.
+/// The use of a file.
 #[derive(Clone, Copy, Debug, PartialEq, Eq)]
 pub enum Role {
-    /// The description is read from it.
+    /// It is the description.
     Description,
-    /// The first tokens of a channel are read from it: `--tokens`.
+    /// A channel's first tokens are read from it: `--tokens`.
     Tokens,
     /// Tokens are read from it as they come: `--in`.
     In,
-    /// What goes through a channel is written to it: `--out`.
+    /// A channel's stream is written to it: `--out`.
     Out,
-    /// What is told is written to it.
+    /// The report is written to it.
     Report,
 }
 
@@ -45,7 +45,7 @@ impl Role {
     }
 }
 
-/// A use of the file of this name. The channel is empty where it is used for none.
+/// A use of a file. `channel` is empty if it is for none.
 #[derive(Clone, Copy, Debug)]
 pub struct Use<'a> {
     pub role: Role,
@@ -53,11 +53,10 @@ pub struct Use<'a> {
     pub file: &'a str,
 }
 
-/// Checks that files can be used so: the description is read from this one, and the tokens of channels from those of
-/// the inputs, in this role; what goes through channels is written to those of the outputs, and what is told to
-/// standard output, if it goes there.
+/// Checks that files can be used together: the description `file`, the inputs in this role, the outputs, and
+/// standard output if a report goes there (`is_told`).
 ///
-/// Errors: two uses that can't stand beside each other; or memory was refused.
+/// Errors: two uses that clash; or out of memory.
 pub fn check_uses<'a, S: FileSystem>(
     alloc: Global,
     files: &S,
@@ -79,7 +78,6 @@ pub fn check_uses<'a, S: FileSystem>(
     }
 }
 
-/// The uses of files.
 fn uses_of<'a>(
     alloc: Global,
     role: Role,
@@ -108,7 +106,6 @@ fn uses_of<'a>(
     Ok(uses)
 }
 
-/// Appends the uses of the files of pairs.
 fn push_uses<'a>(uses: &mut Vec<Use<'a>>, role: Role, pairs: &[Pair<'a>]) -> Result<(), AllocError>
     ensures { OnOk result (map used uses.new.items ≡ map used uses.old.items ++ map (used_for role) pairs.now) }
 {
@@ -123,7 +120,6 @@ fn push_uses<'a>(uses: &mut Vec<Use<'a>>, role: Role, pairs: &[Pair<'a>]) -> Res
     Ok(())
 }
 
-/// Two of these uses that can't stand beside each other, if there are any.
 fn clash_among<'a, S: FileSystem>(files: &S, uses: &[Use<'a>]) -> Option<(Use<'a>, Use<'a>)>
     ensures apart { result ≡ None → AreApart (S.clash files.now) (map used uses.now) }
     ensures clash { IfSome result (λ c. IsClash (S.clash files.now) (map used uses.now) (used c.0) (used c.1)) }
@@ -138,7 +134,7 @@ fn clash_among<'a, S: FileSystem>(files: &S, uses: &[Use<'a>]) -> Option<(Use<'a
     None
 }
 
-/// The first of these other uses that can't stand beside this one.
+/// Returns the first of `others` that clashes with `one`.
 fn clash_with<'a, S: FileSystem>(files: &S, one: Use<'a>, others: &[Use<'a>]) -> Option<Use<'a>>
     ensures apart { result ≡ None → All (λ other. StandApart (S.clash files.now) (used one.entry) (used other)) others.now }
     ensures clash { IfSome result (λ other. Contains others.now other × Clashes (S.clash files.now) (used one.entry) (used other)) }
@@ -151,7 +147,6 @@ fn clash_with<'a, S: FileSystem>(files: &S, one: Use<'a>, others: &[Use<'a>]) ->
     None
 }
 
-/// Whether two uses can't stand beside each other.
 fn do_clash<S: FileSystem>(files: &S, one: Use<'_>, other: Use<'_>) -> bool
     ensures apart { result ≡ false → StandApart (S.clash files.now) (used one.entry) (used other.entry) }
     ensures clash { result ≡ true → Clashes (S.clash files.now) (used one.entry) (used other.entry) }
@@ -166,21 +161,18 @@ fn do_clash<S: FileSystem>(files: &S, one: Use<'_>, other: Use<'_>) -> bool
         )
 }
 
-/// Whether the tokens of one channel are read from two files.
 fn is_given_twice(one: Use<'_>, other: Use<'_>) -> bool
     ensures { result ≡ gives_twice (used one.entry) (used other.entry) }
 {
     one.role.gives_tokens() && other.role.gives_tokens() && one.channel == other.channel
 }
 
-/// Whether both are written to standard output.
 fn is_output_twice(one: Use<'_>, other: Use<'_>) -> bool
     ensures { result ≡ writes_output_twice (used one.entry) (used other.entry) }
 {
     is_output(one) && is_output(other)
 }
 
-/// Whether standard output is written.
 fn is_output(one: Use<'_>) -> bool
     ensures { result ≡ writes_output (used one.entry) }
 {

@@ -1,10 +1,10 @@
-//! Sources of which a read that fails is remembered.
+//! Sources that remember a failed read.
 ghost use Rattle.std.specs.Prelude.{◌≡◌};
 
 use kpn_front::Source;
 use std::io;
 
-/// A source, and why the last read of it that failed did so.
+/// A source, and why its last failed read failed.
 #[derive(Drop)]
 pub struct Watched<S> {
     source: S,
@@ -22,12 +22,12 @@ impl<S> Watched<S> {
         }
     }
 
-    /// Why the last read that failed did so, if one has.
+    /// Returns why the last failed read failed, if one has.
     pub fn error(&self) -> Option<io::Error> {
         self.error
     }
 
-    /// Why the read of a source failed that has failed.
+    /// Returns why the last failed read failed; `Other` if none has.
     pub fn reason(&self) -> io::Error {
         match self.error {
             Some(error) => error,

@@ -1,4 +1,4 @@
--- Where the records of a file stand, and what is wrong with what stands before them.
+-- Where the records of a file are, and what may be wrong before them.
 use Rattle.std.specs.Prelude.{◌≡◌, ◌≤◌, ◌+◌, ◌-◌, ◌*◌, ◌^◌, ◌==◌, ℕ, Bool, drop, length, nat_lt, take, unwrap_or, if◌then◌else◌, List, Option, Some, None, IfSome, IsSome, Result, Ok, Err, IfOk}
 use Rattle.std.specs.List.{position_or_len}
 use Rattle.kpn_tokens.specs.declared.heads.WavHead.{WavHead}
@@ -19,7 +19,7 @@ use Rattle.hox_format.specs.declared.formats.Raw.{Raw}
 use Rattle.hox_format.specs.declared.formats.Wav.{Wav as WavFile}
 use Rattle.hox_format.specs.Forms.{Chosen, at, called, Form, lines, table, wave, samples, Table}
 
--- the bytes of a file in which its records stand
+-- the bytes of a file's records
 abbrev pub sized : Option ℕ → List ℕ → List ℕ
 sized None bytes = bytes
 sized (Some size) bytes = take size bytes
@@ -27,7 +27,6 @@ sized (Some size) bytes = take size bytes
 abbrev pub body_bytes : Body → List ℕ → List ℕ
 body_bytes body bytes = sized body.size (drop body.start bytes)
 
--- the whole file
 abbrev pub to_end : Layout → Body
 to_end layout = record { layout = layout; start = 0; size = None; rate = None }
 
@@ -35,14 +34,14 @@ to_end layout = record { layout = layout; start = 0; size = None; rate = None }
 abbrev pub rows_from : Table → ℕ → ℕ → Body
 rows_from t place start = record (to_end (Fields (record { place = place; separator = t.separator; decimals = t.decimals }))) { start = start }
 
--- where the row of names ends: with its line feed, or with the file. It has no more than so many bytes
+-- the row of names ends with its line feed, or with the file, and has at most 65,536 bytes
 abbrev pub names_row : List ℕ → Bool → Result (Option Cut) HeadFault
 names_row bytes last =
     if nat_lt 65536 (position_or_len is_line_feed bytes) then Err TooLong
     else if nat_lt (position_or_len is_line_feed bytes) (length bytes) then Ok (Some (record { length = position_or_len is_line_feed bytes; used = position_or_len is_line_feed bytes + 1 }))
     else if last then Ok (Some (record { length = length bytes; used = length bytes })) else Ok None
 
--- the column at a place, behind the row of names
+-- the column at a place, after the row of names
 abbrev pub behind : Table → ℕ → Result (Option Cut) HeadFault → Result (Option Body) HeadFault
 behind t place (Err fault) = Err fault
 behind t place (Ok None) = Ok None
@@ -51,7 +50,7 @@ behind t place (Ok (Some row)) = Ok (Some (rows_from t place row.used))
 abbrev pub placed_body : Table → ℕ → List ℕ → Bool → Result (Option Body) HeadFault
 placed_body t place bytes last = if t.has_header then behind t place (names_row bytes last) else Ok (Some (rows_from t place 0))
 
--- the column of a name, behind the row of names
+-- the column of a name, after the row of names
 abbrev pub name_fault : RecordFault → HeadFault
 name_fault NoField = NoColumn
 name_fault fault = Names fault
@@ -68,7 +67,7 @@ named_behind t name bytes (Ok (Some row)) = found t row.used (column_in name (ro
 abbrev pub named_body : Table → List ℕ → List ℕ → Bool → Result (Option Body) HeadFault
 named_body t name bytes last = named_behind t name bytes (names_row bytes last)
 
--- the chosen column, or the one at the place of the channel
+-- the chosen column, or the one at the channel's place
 abbrev pub column_body : Table → Option Chosen → ℕ → List ℕ → Bool → Result (Option Body) HeadFault
 column_body t None place bytes last = placed_body t place bytes last
 column_body t (Some (at chosen)) place bytes last = placed_body t chosen bytes last
@@ -77,16 +76,16 @@ column_body t (Some (called name)) place bytes last = named_body t name bytes la
 abbrev pub csv_body : Table → ℕ → List ℕ → Bool → Result (Option Body) HeadFault
 csv_body t place bytes last = column_body t t.column place bytes last
 
--- the channel of a file that has so many: the chosen one; or that at a place, if the file is given for so many
+-- the chosen channel; else the one at `place`, if the file is given for as many as it has
 abbrev pub channel_of : Option ℕ → ℕ → ℕ → ℕ → Result ℕ HeadFault
 channel_of (Some channel) place count has = if nat_lt channel has then Ok channel else Err (NoChannel has)
 channel_of None place count has = if count == has then (if nat_lt place has then Ok place else Err (NoChannel has)) else Err (Channels has)
 
--- the frames of a channel of so many
+-- the frames of one of these channels
 abbrev pub channel_frame : Sample → ℕ → ℕ → Frame
 channel_frame sample channels channel = record { before = channel * bytes_in sample.width; sample = sample; after = (channels - 1 - channel) * bytes_in sample.width }
 
--- samples without a head: as many channels as are said, or as the file is given for
+-- samples without a head: as many channels as stated, or as the file is given for
 abbrev pub framed : Sample → ℕ → Result ℕ HeadFault → Result (Option Body) HeadFault
 framed sample channels (Ok channel) = Ok (Some (to_end (Frames (channel_frame sample channels channel))))
 framed sample channels (Err fault) = Err fault
@@ -115,7 +114,7 @@ IsChannelResult wav place count head (Err (NoChannel has)) = channel_of wav.chan
 IsChannelResult wav place count head (Err TooLong) = ⊥
 IsChannelResult wav place count head (Err TooWide) = 2 ^ 16 ≤ head.channels * bytes_in head.sample.width
 
--- the channel of a WAV file, by its head; or why it has no head, or none yet
+-- a channel of a WAV file; or why it has no head, or none yet
 abbrev pub IsHeadedBody : WavFile → ℕ → ℕ → List ℕ → Result Body HeadFault → Type 0
 IsHeadedBody wav place count bytes body = (head : WavHead) × IsWavHead bytes head × IsChannelResult wav place count head body
 
@@ -141,6 +140,6 @@ IsBodyResult (samples raw) place count bytes last body = body ≡ raw_body raw p
 abbrev pub IsWithin : List ℕ → Result (Option Body) HeadFault → Type 0
 IsWithin bytes body = IfOk body (λ o. IfSome o (λ b. b.start ≤ length bytes))
 
--- no more bytes are wanted
+-- no more bytes are needed
 abbrev pub IsTold : Result (Option Body) HeadFault → Type 0
 IsTold body = IfOk body IsSome

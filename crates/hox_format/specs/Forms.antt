@@ -13,7 +13,7 @@ use Rattle.hox_format.specs.declared.formats.Wav.{Wav as WavFile}
 use Rattle.hox_format.specs.declared.formats.Which.{Which}
 use Rattle.hox_format.specs.declared.formats.Which.TheVariants.{Place, Name}
 
--- the column that is chosen, by its place or by its name
+-- the chosen column, by its place or name
 pub data Chosen : Type 0 where
   at : ℕ → Chosen
   called : List ℕ → Chosen
@@ -22,7 +22,6 @@ abbrev pub chosen : Which → Chosen
 chosen (Place place) = at place
 chosen (Name name) = called name.now
 
--- a CSV file
 pub record Table : Type 0 where
   pub separator : Separator
   pub decimals : Decimals
@@ -32,7 +31,6 @@ pub record Table : Type 0 where
 abbrev pub table_of : CsvFile → Table
 table_of csv = record { separator = csv.separator; decimals = csv.decimals; has_header = csv.has_header; column = option_map chosen csv.column }
 
--- a format
 pub data Form : Type 0 where
   lines : Decimals → Form
   table : Table → Form
@@ -45,11 +43,11 @@ form (Csv csv) = table (table_of csv)
 form (Wav wav) = wave wav
 form (Raw raw) = samples raw
 
--- whole numbers, with a sign where one is due
+-- whole signed numbers
 abbrev pub whole : Decimals
 whole = record { digits = 0; is_unsigned = false }
 
--- a format of which nothing but its name is said
+-- formats named without keys
 abbrev pub plain_lines : Form
 plain_lines = lines whole
 

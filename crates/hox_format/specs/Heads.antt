@@ -9,7 +9,7 @@ use Rattle.kpn_tokens.specs.Samples.{bytes_in}
 use Rattle.hox_format.specs.declared.formats.Wav.{Wav}
 use Rattle.hox_format.specs.Forms.{Form, lines, table, wave, samples, Table}
 
--- a channel alone: its samples stand side by side
+-- a single channel has adjacent samples
 abbrev pub alone : Sample → Layout
 alone sample = Frames (record { before = 0; sample = sample; after = 0 })
 
@@ -23,21 +23,21 @@ layout_of (samples raw) = alone raw.sample
 abbrev pub names_text : Table → List (List ℕ) → List ℕ
 names_text t names = if t.has_header then row_text (names_writer t.separator) names else []
 
--- the head of a WAV file: how many channels it tells has two bytes
+-- a WAV head states the number of channels in two bytes
 abbrev pub channels_told : ℕ → ℕ
 channels_told count = min count 65535
 
 abbrev pub wave_text : Wav → ℕ → ℕ → Option ℕ → List ℕ
 wave_text wav channels rate frames = wav_text channels (bytes_in wav.width) (unwrap_or wav.rate rate) (body_size frames (channels * bytes_in wav.width))
 
--- what stands before the tokens of the channels of these names
+-- what precedes the tokens of the channels of these names
 abbrev pub head_text : Form → List (List ℕ) → ℕ → Option ℕ → List ℕ
 head_text (lines decimals) names rate frames = []
 head_text (table t) names rate frames = names_text t names
 head_text (wave wav) names rate frames = wave_text wav (channels_told (length names)) rate frames
 head_text (samples raw) names rate frames = []
 
--- what stands after so many bytes of them: if a head tells how many they are, they are even, with one more if need be. It can't tell of
+-- what follows `size` bytes of tokens: if a head states that size, a byte 0 makes it even. It does not state
 -- 2 ^ 32 - 1 or more
 abbrev pub padding : ℕ → Option ℕ → List ℕ
 padding size None = []

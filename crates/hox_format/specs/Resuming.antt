@@ -1,4 +1,4 @@
--- Files that are read on from where their records begin.
+-- Files opened at their records.
 use Rattle.std.specs.Prelude.{◌≡◌, ℕ, Bool, true, List, drop, length, take, Option, Some, IfSome, option_map, Ok, Err}
 use Rattle.std.specs.Io.KnownBytes.{Consumes, IsAtEnd, prepend_known}
 use Rattle.kpn_tokens.specs.declared.layouts.Layout.{Layout}
@@ -9,18 +9,16 @@ use Rattle.hox_format.specs.declared.resuming.BeginFault.TheVariants.{Head, Memo
 use Rattle.hox_format.specs.Bodies.{IsBodyResult, body_bytes, sized}
 use Rattle.hox_format.specs.Forms.{Form}
 
--- what is left to read of a file of which these bytes were held, and then a source is read, to so many bytes
+-- what is left to read of a file: the held bytes, then the source, up to a size
 abbrev pub left_in : Option ℕ → List ℕ → Option (List ℕ) → Option (List ℕ)
 left_in size held remaining = option_map (sized size) (prepend_known held remaining)
 
 abbrev pub left_of : {X : Type 0} → (X → Option (List ℕ)) → Resumed X → Option (List ℕ)
 left_of remaining r = left_in r.left (drop r.next r.held.items) (remaining r.source)
 
--- the source that is read on
 abbrev pub source_of : {X : Type 0} → Resumed X → X
 source_of r = r.source
 
--- whether a read of the source has failed
 abbrev pub resumed_has_failed : {X : Type 0} → (X → Bool) → Resumed X → Bool
 resumed_has_failed has_failed r = has_failed r.source
 
@@ -29,8 +27,8 @@ pub record IsFront (front bytes : List ℕ) (last : Bool) : Type 0 where
   pub begins : take (length front) bytes ≡ front
   pub ends : last ≡ true → front ≡ bytes
 
--- the first bytes of a file tell where its records are, how they are laid out, and how many samples a second there are; and what is left
--- are these records
+-- the first bytes of a file determine where its records are, their layout and the samples per second. All
+-- that is left are these records
 pub record IsBegun (form : Form) (place count : ℕ) (known : Option (List ℕ)) (layout : Layout) (rate : Option ℕ) (left : Option (List ℕ)) : Type 0 where
   pub front : List ℕ
   pub last : Bool
@@ -41,19 +39,19 @@ pub record IsBegun (form : Form) (place count : ℕ) (known : Option (List ℕ))
   pub rate_is : rate ≡ body.rate
   pub left_is : IfSome known (λ bytes. left ≡ Some (body_bytes body bytes))
 
--- why it is not begun: its first bytes tell that what stands before its records is refused; or it can't be read, or memory was refused
+-- why a file was not opened: its first bytes determine a fault before its records; or a read failed, or out of memory
 abbrev pub IsUnbegun : Form → ℕ → ℕ → Option (List ℕ) → BeginFault → Type 0
 IsUnbegun form place count known (Head fault) = (front : List ℕ) × (last : Bool) × IsBodyResult form place count front last (Err fault) × IfSome known (λ bytes. IsFront front bytes last)
 IsUnbegun form place count known (Unread error) = Unit {0}
 IsUnbegun form place count known Memory = Unit {0}
 
--- it was not for what stands before its records
+-- the cause was not what precedes its records
 abbrev pub IsNoHead : BeginFault → Type 0
 IsNoHead (Head fault) = ⊥
 IsNoHead (Unread error) = Unit {0}
 IsNoHead Memory = Unit {0}
 
--- a file that is being begun: the bytes that were read of it; and whether no more come
+-- a partly read file: what was read of it, and whether no more comes
 pub record IsFrontOf (known : Option (List ℕ)) (held : List ℕ) (last : Bool) (remaining : Option (List ℕ)) : Type 0 where
   pub read : Consumes known remaining held
   pub ends : last ≡ true → IsAtEnd remaining

@@ -1,4 +1,4 @@
--- What a text says of a format: its name, and keys one after the other, each of which changes it.
+-- Parsing a format: its name, then keys in turn, each of which changes it.
 use Rattle.std.specs.Prelude.{◌-◌, ◌^◌, ◌==◌, ◌&&◌, ℕ, Bool, true, false, bytes_eq, codes, length, nat_le, nat_lt, option_map, if◌then◌else◌, List, [], ◌∷◌, Option, Some, None, Result, Ok, Err}
 use Rattle.std.specs.Char.{is_ascii_digit}
 use Rattle.std.specs.List.{after_first, before_first, find, list_all, list_any, position_or_len, slice_split}
@@ -20,7 +20,7 @@ use Rattle.hox_format.specs.declared.parsing.FormatFault.{FormatFault}
 use Rattle.hox_format.specs.declared.parsing.FormatFault.TheVariants.{Name, Key, Value, Twice}
 use Rattle.hox_format.specs.Forms.{Chosen, at, called, Form, lines, table, wave, samples, Table, form, plain_lines, plain_table, plain_wave, unsigned, unsigned_table}
 
--- a fault, as contracts see it: no format has the name, it has no such key, the key does not take the value, or it is given twice
+-- a fault, as contracts see it
 pub data Refused : Type 0 where
   no_name : List ℕ → Refused
   no_key : List ℕ → Refused
@@ -40,19 +40,19 @@ abbrev pub seen : Result Format FormatFault → Said
 seen (Ok format) = Ok (form format)
 seen (Err fault) = Err (refused fault)
 
--- the pieces of a text, between its commas
+-- the parts of a text between its commas
 abbrev pub is_comma : ℕ → Bool
 is_comma b = b == 44
 
 abbrev pub pieces : List ℕ → List (List ℕ)
 pieces text = slice_split is_comma text
 
--- those of what follows a comma, if there was one
+-- those after the first comma, if there is one
 abbrev pub later_pieces : Option (List ℕ) → List (List ℕ)
 later_pieces None = []
 later_pieces (Some text) = pieces text
 
--- a number in digits, if it is no greater than this; one from 1 on; and such a one counted from 0
+-- a number in digits, at most `most`; one from 1 on; and such a one counted from 0
 abbrev pub is_number : List ℕ → Bool
 is_number text = nat_lt 0 (length text) && list_all is_ascii_digit text
 
@@ -69,7 +69,7 @@ count_said most text = from_one (number_said most text)
 abbrev pub place_said : ℕ → List ℕ → Option ℕ
 place_said most text = option_map (λ n. n - 1) (count_said most text)
 
--- samples by their names; one alone is little-endian
+-- samples by their names, little-endian by default
 abbrev pub plain_sample : Width → Coding → Endian → Sample
 plain_sample width coding endian = record { width = width; coding = coding; endian = endian; clips = false }
 
@@ -94,7 +94,7 @@ form_named name =
     if bytes_eq name (codes "text") then Some plain_lines else if bytes_eq name (codes "csv") then Some plain_table
     else if bytes_eq name (codes "wav") then Some plain_wave else option_map plain_samples (sample_named name)
 
--- the keys that take no value, and what they change
+-- the keys without a value, and what they change
 abbrev pub text_flag : Decimals → List ℕ → Option Form
 text_flag decimals key = if bytes_eq key (codes "unsigned") then Some (lines (unsigned decimals)) else None
 
@@ -122,7 +122,7 @@ if_key key (Some f) = Ok f
 abbrev pub flag_said : Form → List ℕ → Said
 flag_said f key = if_key key (flagged f key)
 
--- the keys that take a value, if they take it, and what they change
+-- the keys with a value, the values they take, and what they change
 abbrev pub taken : List ℕ → List ℕ → Option Form → Said
 taken key value None = Err (no_value key value)
 taken key value (Some f) = Ok f
@@ -134,11 +134,11 @@ abbrev pub text_value : Decimals → List ℕ → List ℕ → Said
 text_value decimals key value =
     if bytes_eq key (codes "digits") then taken key value (option_map lines (digits_said decimals value)) else Err (no_key key)
 
--- a column is named, unless digits say its place from 1 on
+-- a column is named, unless digits give its place from 1 on
 abbrev pub column_said : List ℕ → Option Chosen
 column_said value = if length value == 0 then None else if is_number value then option_map at (place_said (2 ^ 64 - 1) value) else Some (called value)
 
--- a column that has a name has a row of names
+-- a column with a name implies a row of names
 abbrev pub with_column : Table → Chosen → Form
 with_column t (at place) = table (record t { column = Some (at place) })
 with_column t (called name) = table (record t { column = Some (called name); has_header = true })
@@ -172,7 +172,7 @@ wav_value wav key value =
     else if bytes_eq key (codes "rate") then taken key value (option_map (λ rate. wave (record wav { rate = Some rate })) (count_said (2 ^ 32 - 1) value))
     else Err (no_key key)
 
--- the chosen channel is one of the channels, as far as both are said
+-- the chosen channel is one of the channels, if both are stated
 abbrev pub is_one_of : Option ℕ → Option ℕ → Bool
 is_one_of (Some channel) (Some channels) = nat_lt channel channels
 is_one_of (Some channel) None = true
@@ -204,7 +204,7 @@ setting_said f setting =
     if nat_lt (position_or_len is_equals setting) (length setting) then value_said f (before_first is_equals setting) (after_first is_equals setting)
     else flag_said f setting
 
--- settings one after the other, up to the first that is refused
+-- settings in turn, up to the first fault
 abbrev pub with_setting : Said → List ℕ → Said
 with_setting (Ok f) setting = setting_said f setting
 with_setting (Err fault) setting = Err fault
@@ -213,12 +213,12 @@ abbrev pub settings_said : Said → List (List ℕ) → Said
 settings_said said [] = said
 settings_said said (setting ∷ later) = settings_said (with_setting said setting) later
 
--- a format by its name, and the settings after it
+-- a format by its name
 abbrev pub name_said : List ℕ → Option Form → Said
 name_said name None = Err (no_name name)
 name_said name (Some f) = Ok f
 
--- the key of a setting, and the first key that a later setting has too
+-- the key of a setting, and the first key that a later setting repeats
 abbrev pub key_of : List ℕ → List ℕ
 key_of setting = before_first is_equals setting
 
@@ -229,7 +229,7 @@ abbrev pub key_twice : List (List ℕ) → Option (List ℕ)
 key_twice [] = None
 key_twice (setting ∷ later) = if list_any (has_key (key_of setting)) later then Some (key_of setting) else key_twice later
 
--- a key is given once
+-- no key is given twice
 abbrev pub unless_twice : Option (List ℕ) → Form → Said
 unless_twice None f = Ok f
 unless_twice (Some key) f = Err (given_twice key)

@@ -1,4 +1,4 @@
-//! Where the records of a file stand.
+//! Finds the records of a file.
 ghost use Rattle.std.specs.Prelude.{◌≡◌, ◌<◌, ◌≤◌, ◌*◌, ◌^◌, IfOk, IfSome, drop, length, nat_lt, position, take, true};
 ghost use Rattle.std.specs.List.{position_or_len};
 ghost use Rattle.kpn_tokens.specs.Rows.{is_line_feed};
@@ -13,9 +13,8 @@ use kpn_tokens::{
 };
 use std::alloc::{AllocError, Global};
 
-/// What stands in a file for one channel: how its records are laid out, from which byte on they stand, how
-/// many bytes these have if that is told (and else they go on to the end), and how many samples there are a
-/// second if that is told.
+/// One channel's records in a file: their layout, where they start, their size in bytes if stated (else they
+/// extend to the end), and the samples per second if stated.
 #[derive(Clone, Copy, Debug, PartialEq, Eq)]
 pub struct Body {
     pub layout: Layout,
@@ -27,15 +26,15 @@ pub struct Body {
 /// Why a file has no records for a channel.
 #[derive(Clone, Copy, Debug, PartialEq, Eq)]
 pub enum HeadFault {
-    /// It is no WAV file that is read.
+    /// It is no readable WAV file.
     Wav(WavFault),
-    /// No column has the name that is asked for.
+    /// No column has the chosen name.
     NoColumn,
-    /// Something is wrong with the row of names.
+    /// The row of names is faulty.
     Names(RecordFault),
-    /// The file has so many channels, not as many as it is given for, and none was chosen.
+    /// The file has this many channels, but is given for another number, and no channel is chosen.
     Channels { has: u16 },
-    /// The file has so many channels, and not the one that is asked for.
+    /// The file has this many channels, and not the chosen one.
     NoChannel { has: u16 },
     /// The row of names has more than 65,536 bytes.
     TooLong,
@@ -43,15 +42,15 @@ pub enum HeadFault {
     TooWide,
 }
 
-/// Returns what stands in a file of this format for the channel at `place`, counted from 0, of `count` that the
-/// file is given for, if these first bytes of the file tell it; `None` if more bytes have to come for that. If
-/// no more come, it is told, or there is a fault.
+/// Returns the records for the channel at `place`, counted from 0, of the `count` channels that the file is
+/// given for, or `None` if the first `bytes` of the file don't suffice. If no more bytes come (`is_last`),
+/// never returns `None`.
 ///
-/// A column or a channel that the format chooses stands for the one at `place`. Where it chooses none, a file
-/// of samples has to have `count` channels. Samples without a head have as many channels as the format says, or
-/// else `count`. A column with a name is sought in the row of names, which is there in any case then.
+/// A column or channel that the format chooses overrides `place`. If it chooses none, a file of samples must
+/// have `count` channels. Samples without a head have as many channels as the format says, or else `count`. A
+/// column chosen by name implies a row of names.
 ///
-/// Errors: memory was refused.
+/// Errors: out of memory.
 pub fn body_in(
     alloc: Global,
     format: &Format<'_>,
@@ -72,7 +71,6 @@ pub fn body_in(
     }
 }
 
-/// A body that is the whole file.
 fn to_end(layout: Layout) -> Body
     ensures { result ≡ to_end layout }
 {
@@ -84,7 +82,6 @@ fn to_end(layout: Layout) -> Body
     }
 }
 
-/// The body of a CSV file.
 fn csv_body(
     alloc: Global,
     csv: &Csv<'_>,
@@ -101,7 +98,6 @@ fn csv_body(
     }
 }
 
-/// The body of a CSV file with the column at a place, after the row of names if there is one.
 fn placed_body(
     csv: &Csv<'_>,
     place: usize,
@@ -120,7 +116,6 @@ fn placed_body(
     }
 }
 
-/// The body of a CSV file with the column of a name.
 fn named_body(
     alloc: Global,
     csv: &Csv<'_>,
@@ -141,7 +136,6 @@ fn named_body(
     }
 }
 
-/// The rows of a CSV file from a byte on.
 fn rows_from(csv: &Csv<'_>, place: usize, start: usize) -> Body
     ensures { result ≡ rows_from (table_of csv.now) place start }
 {
@@ -156,7 +150,6 @@ fn rows_from(csv: &Csv<'_>, place: usize, start: usize) -> Body
     }
 }
 
-/// Why there is no column of a name.
 fn name_fault(fault: RecordFault) -> HeadFault
     ensures { result ≡ name_fault fault }
 {
@@ -166,7 +159,7 @@ fn name_fault(fault: RecordFault) -> HeadFault
     }
 }
 
-/// Where the row of names ends, if it is there to its end.
+/// Returns the row of names, if it is complete.
 fn names_row(bytes: &[u8], is_last: bool) -> Result<Option<Cut>, HeadFault>
     ensures row { result ≡ names_row bytes.now is_last }
     ensures within { IfOk result (λ o. IfSome o (λ row. row.length ≤ length bytes.now)) }
@@ -191,7 +184,7 @@ fn names_row(bytes: &[u8], is_last: bool) -> Result<Option<Cut>, HeadFault>
     }
 }
 
-/// How many bytes stand before the first line feed, or how many there are.
+/// Returns how many bytes precede the first line feed, or how many there are.
 fn line_length(bytes: &[u8]) -> usize
     ensures is { result ≡ position_or_len is_line_feed bytes.now }
     ensures within { result ≤ length bytes.now }
@@ -202,14 +195,12 @@ fn line_length(bytes: &[u8]) -> usize
     }
 }
 
-/// Where the first line feed is.
 fn line_feed_in(bytes: &[u8]) -> Option<usize>
     ensures { result ≡ position is_line_feed bytes.now }
 {
     bytes.iter().position(|b| *b == b'\n')
 }
 
-/// The body of a WAV file.
 fn wav_body(
     wav: &Wav,
     place: usize,
@@ -229,7 +220,6 @@ fn wav_body(
     }
 }
 
-/// The body of a WAV file with this head.
 fn channel_body(wav: &Wav, place: usize, count: usize, head: &WavHead) -> Result<Body, HeadFault>
     ensures { IsChannelResult wav.now place count head.now result }
 {
@@ -248,7 +238,6 @@ fn channel_body(wav: &Wav, place: usize, count: usize, head: &WavHead) -> Result
     })
 }
 
-/// A size as a long number.
 fn long(size: Option<u32>) -> Option<u64>
     ensures { result ≡ size }
 {
@@ -258,7 +247,7 @@ fn long(size: Option<u32>) -> Option<u64>
     }
 }
 
-/// The channel of a file that has so many, chosen or at a place.
+/// Returns the chosen channel, or else the one at `place`, in a file with `has` channels.
 fn channel_of(chosen: Option<u16>, place: usize, count: usize, has: u16) -> Result<u16, HeadFault>
     ensures is { result ≡ channel_of chosen place count has }
     ensures below { IfOk result (λ channel. channel < has) }
@@ -272,7 +261,6 @@ fn channel_of(chosen: Option<u16>, place: usize, count: usize, has: u16) -> Resu
     }
 }
 
-/// The body of samples without a head.
 fn raw_body(raw: &Raw, place: usize, count: usize) -> Result<Option<Body>, HeadFault>
     ensures { result ≡ raw_body raw.now place count }
 {
@@ -290,14 +278,13 @@ fn raw_body(raw: &Raw, place: usize, count: usize) -> Result<Option<Body>, HeadF
     }
 }
 
-/// Whether frames of so many samples are too wide.
 fn is_wide(channels: usize, width: Width) -> bool
     ensures is { result ≡ nat_lt 65535 (channels * bytes_in width) }
 {
     channels > 65535 || channels * width.bytes() > 65535
 }
 
-/// The frame of a channel of so many.
+/// Returns the frame of a channel among `channels`.
 fn channel_frame(sample: Sample, channels: u16, channel: u16) -> Frame
     requires channel { channel < channels }
     requires narrow { channels * bytes_in sample.width < 2 ^ 16 }
@@ -311,7 +298,7 @@ fn channel_frame(sample: Sample, channels: u16, channel: u16) -> Frame
     }
 }
 
-/// Returns the bytes of a file in which these records stand: none if the file ends before them.
+/// Returns the bytes of these records in a file: none if the file ends before them.
 pub fn body_of<'b>(bytes: &'b [u8], body: &Body) -> &'b [u8]
     ensures { result.now ≡ body_bytes body.now bytes.now }
 {
@@ -322,7 +309,6 @@ pub fn body_of<'b>(bytes: &'b [u8], body: &Body) -> &'b [u8]
     }
 }
 
-/// The bytes from one on.
 fn bytes_from(bytes: &[u8], start: usize) -> &[u8]
     ensures { result.now ≡ drop start bytes.now }
 {
@@ -333,7 +319,6 @@ fn bytes_from(bytes: &[u8], start: usize) -> &[u8]
     }
 }
 
-/// The first bytes, so many or all.
 fn first_bytes(bytes: &[u8], size: u64) -> &[u8]
     ensures { result.now ≡ take size bytes.now }
 {

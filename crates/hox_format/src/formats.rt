@@ -1,15 +1,15 @@
-//! How files have tokens, as it is named.
+//! The formats of files.
 ghost use Rattle.std.specs.Prelude.{◌≡◌};
 ghost use Rattle.hox_format.specs.Forms.{form, form_of_file, is_wav_name, unsigned, unsigned_form};
 
 use kpn_tokens::{Decimals, Sample, Separator, Width};
 
-/// How a file has tokens.
+/// How a file represents tokens.
 #[derive(Clone, Copy, Debug, PartialEq, Eq)]
 pub enum Format<'a> {
-    /// A token a line.
+    /// A token per line.
     Text(Decimals),
-    /// A token a line, in a column of it.
+    /// A token per line, in one column.
     Csv(Csv<'a>),
     /// Samples after the head of a WAV file.
     Wav(Wav),
@@ -17,8 +17,8 @@ pub enum Format<'a> {
     Raw(Raw),
 }
 
-/// A CSV file: what stands between its fields; how words are written; whether a row of names stands first;
-/// and which column has the tokens, if it is said.
+/// A CSV file: its separator, the format of words, whether a row of names comes first, and the column of the
+/// tokens, if chosen.
 #[derive(Clone, Copy, Debug, PartialEq, Eq)]
 pub struct Csv<'a> {
     pub separator: Separator,
@@ -34,9 +34,8 @@ pub enum Which<'a> {
     Name(&'a str),
 }
 
-/// A WAV file: which of its channels has the tokens, counted from 0, if it is said; and of one that is
-/// written, how many bytes a sample has, how many samples a second there are, if it is said, and whether the
-/// nearest sample stands for a word that has none.
+/// A WAV file: the channel of the tokens, counted from 0, if chosen. For writing: the bytes per sample, the
+/// samples per second, if stated, and whether a word without a sample is clipped to the nearest one.
 #[derive(Clone, Copy, Debug, PartialEq, Eq)]
 pub struct Wav {
     pub channel: Option<u16>,
@@ -45,8 +44,8 @@ pub struct Wav {
     pub clips: bool,
 }
 
-/// Samples: how one is written; which channel has the tokens, counted from 0, and how many there are, if it
-/// is said.
+/// Samples: their format; the channel of the tokens, counted from 0, if chosen; and how many channels there
+/// are, if stated.
 #[derive(Clone, Copy, Debug, PartialEq, Eq)]
 pub struct Raw {
     pub sample: Sample,
@@ -55,7 +54,7 @@ pub struct Raw {
 }
 
 impl Csv<'_> {
-    /// Fields with commas between them, whole numbers with a sign where one is due, and no row of names.
+    /// Fields separated by commas, whole signed numbers, no row of names.
     pub const PLAIN: Csv<'static> = Csv {
         separator: Separator::Comma,
         decimals: Decimals::WHOLE,
@@ -65,7 +64,7 @@ impl Csv<'_> {
 }
 
 impl Wav {
-    /// Samples of 16 bits. A word that has none is refused.
+    /// Samples of 16 bits, without clipping.
     pub const PLAIN: Wav = Wav {
         channel: None,
         width: Width::Two,
@@ -75,11 +74,11 @@ impl Wav {
 }
 
 impl<'a> Format<'a> {
-    /// Lines of whole numbers, with a sign where one is due.
+    /// Lines of whole signed numbers.
     pub const TEXT: Format<'static> = Format::Text(Decimals::WHOLE);
 
-    /// Returns the format of a file of this name of which nothing else is said: WAV if the name ends in
-    /// `.wav`, in letters of any case, and lines of text otherwise.
+    /// Returns the default format of a file: WAV if the name ends in `.wav`, in letters of any case, else
+    /// lines of text.
     pub fn of_file(file: &str) -> Format<'static>
         ensures { form result ≡ form_of_file file.now }
     {
@@ -90,7 +89,7 @@ impl<'a> Format<'a> {
         }
     }
 
-    /// Returns the same format with the words of lines and of fields written unsigned.
+    /// Returns the format with the words of lines and fields unsigned.
     pub fn unsigned(self) -> Format<'a>
         ensures { form result ≡ unsigned_form (form self.entry) }
     {
@@ -106,7 +105,6 @@ impl<'a> Format<'a> {
     }
 }
 
-/// These decimals, with words written unsigned.
 pub(crate) fn unsigned(decimals: Decimals) -> Decimals
     ensures { result ≡ unsigned decimals }
 {
@@ -116,7 +114,6 @@ pub(crate) fn unsigned(decimals: Decimals) -> Decimals
     }
 }
 
-/// Whether a name ends as that of a WAV file.
 fn is_wav_name(file: &str) -> bool
     ensures { result ≡ is_wav_name file.now }
 {

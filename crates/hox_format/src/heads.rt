@@ -1,4 +1,4 @@
-//! What stands in a file before and after the tokens that are written.
+//! What a file has before and after the tokens.
 ghost use Rattle.std.specs.Prelude.{◌≡◌, ◌++◌, OnErr, OnOk, map};
 ghost use Rattle.hox_format.specs.Forms.{form};
 ghost use Rattle.hox_format.specs.Heads.{channels_told, head_text, layout_of, tail_text};
@@ -7,8 +7,8 @@ use crate::formats::Format;
 use kpn_tokens::{Column, Frame, Layout, Sample, append_names, append_wav_head, wav_sample};
 use std::alloc::{AllocError, Global};
 
-/// Returns how one channel alone is written to a file of this format: on lines, in the first column, or as
-/// samples with nothing between them.
+/// Returns how a single channel is written to a file of this format: on lines, in the first column, or as
+/// adjacent samples.
 pub fn layout_of(format: &Format<'_>) -> Layout
     ensures { result ≡ layout_of (form format.now) }
 {
@@ -27,12 +27,11 @@ pub fn layout_of(format: &Format<'_>) -> Layout
     }
 }
 
-/// Appends what stands in a file of this format before the tokens of the channels of these names: the row of
-/// names of a CSV file that has one; or the head of a WAV file with so many channels, of which it tells 65,535
-/// at most, with so many samples of each a second as the format says, or else as many as `rate`, and with so
-/// many frames, if that is known; otherwise nothing.
+/// Appends what precedes the tokens of the channels of these names: for a CSV file with a row of names, that
+/// row; for a WAV file its head, with the number of channels (at most 65,535), the format's samples per
+/// second, or else `rate`, and the number of frames, if known; else nothing.
 ///
-/// Errors: memory was refused. Some bytes may have been appended.
+/// Errors: out of memory. Some bytes may have been appended.
 pub fn append_head(
     alloc: Global,
     out: &mut Vec<u8>,
@@ -53,18 +52,16 @@ pub fn append_head(
     }
 }
 
-/// How many channels a head tells.
 fn channels_told(count: usize) -> u16
     ensures { result ≡ channels_told count }
 {
     count.min(65535) as u16
 }
 
-/// Appends what stands in a file of this format after so many bytes of tokens: after an odd number of bytes in
-/// a WAV file whose head tells how many they are, one byte 0; otherwise nothing. A head tells that if it was
-/// given the number of frames, and there are less than 2^32 - 1 bytes.
+/// Appends what follows `size` bytes of tokens: one byte 0 in a WAV file if `size` is odd and its head states
+/// the size; else nothing. A head states it if it got the number of frames and `size` is less than 2^32 - 1.
 ///
-/// Errors: memory was refused. Nothing is appended then.
+/// Errors: out of memory. Then nothing is appended.
 pub fn append_tail(
     out: &mut Vec<u8>,
     format: &Format<'_>,

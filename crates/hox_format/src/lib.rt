@@ -1,8 +1,7 @@
-//! How the files of `hox` have tokens, as a user names it: `FORMAT[,KEY[=VALUE]..]`.
+//! The formats of `hox`'s files, as a user names them: `FORMAT[,KEY[=VALUE]..]`.
 //!
-//! A [`Format`] says which layout a file has. Where the tokens of a channel begin in a file, its first bytes
-//! tell ([`body_in`]); what stands before and after the tokens that are written, [`append_head`] and
-//! [`append_tail`] write.
+//! A [`Format`] determines the layout of a file. [`body_in`] finds the tokens of a channel by the first bytes
+//! of a file; [`append_head`] and [`append_tail`] write what precedes and follows the tokens.
 #![tactic(auto)]
 
 mod bodies;

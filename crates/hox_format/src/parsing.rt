@@ -1,4 +1,4 @@
-//! Formats, as they are named.
+//! Parses the names of formats.
 ghost use Rattle.std.specs.Prelude.{◌≡◌, ◌∷◌, ◌<◌, IfSome, Ok, length, option_map};
 ghost use Rattle.std.specs.List.{list_any};
 ghost use Rattle.hox_format.specs.Forms.{form};
@@ -21,20 +21,18 @@ pub enum FormatFault<'a> {
     Twice(&'a str),
 }
 
-/// Returns the format that a text names, as `NAME[,KEY[=VALUE]..]`. A key is given once.
+/// Parses a format, `NAME[,KEY[=VALUE]..]`. A key is given at most once.
 ///
-/// - `text`: a token a line, with the keys `digits=N` (digits after the point, 0 to 19) and `unsigned`.
-/// - `csv`: a column, with `column=N` (from 1) or `column=NAME` (which says that there is a row of names; a
-///   text of digits alone is a number), `delimiter=D` (`comma`, `semicolon`, `tab`, or `;` or a tab itself),
-///   `header`, `digits=N` and `unsigned`.
-/// - `wav`: a channel of a WAV file, with `channel=N` (from 1), `bits=N` (8, 16, 24 or 32; 16 if it is not
-///   said), `rate=N` (1 to 2^32 - 1) and `clip`.
+/// - `text`: a token per line, with the keys `digits=N` (digits after the point, 0 to 19) and `unsigned`.
+/// - `csv`: a column, with `column=N` (from 1) or `column=NAME` (implies a row of names; digits alone are a number),
+///   `delimiter=D` (`comma`, `semicolon`, `tab`, or `;` or a tab itself), `header`, `digits=N` and `unsigned`.
+/// - `wav`: a channel of a WAV file, with `channel=N` (from 1), `bits=N` (8, 16, 24 or 32; by default 16),
+///   `rate=N` (1 to 2^32 - 1) and `clip`.
 /// - `s8`, `u8`, and `s16`, `s24`, `s32`, `s64` and `u64`, each alone or with `le` or `be`: a channel of
-///   samples, little-endian if it is not said, with `channel=N` and `channels=N` (from 1 to 65,535; the channel
-///   is one of the channels, as far as both are said), and `clip`.
+///   samples, by default little-endian, with `channel=N` and `channels=N` (1 to 65,535; the channel is at
+///   most the number of channels, if both are given), and `clip`.
 ///
-/// Errors: the first name, key or value that is none of these; or else the first key that is given twice. See
-/// [`FormatFault`].
+/// Errors: the first name, key or value that is none of these; else the first key given twice. See [`FormatFault`].
 pub fn format_of<'a>(text: &'a str) -> Result<Format<'a>, FormatFault<'a>>
     ensures { seen result ≡ format_said text.now }
 {
@@ -49,7 +47,6 @@ pub fn format_of<'a>(text: &'a str) -> Result<Format<'a>, FormatFault<'a>>
     }
 }
 
-/// The format with settings, one after the other.
 fn with_settings<'a>(
     format: Format<'a>,
     settings: Option<&'a str>,
@@ -66,7 +63,7 @@ fn with_settings<'a>(
     Ok(changed)
 }
 
-/// The first key that a later setting has too.
+/// Returns the first key that a later setting repeats.
 fn key_twice(settings: Option<&str>) -> Option<&str>
     ensures { option_map (λ t. t.now) result ≡ key_twice (later_pieces (option_map (λ t. t.now) settings.entry)) }
 {
@@ -82,7 +79,6 @@ fn key_twice(settings: Option<&str>) -> Option<&str>
     None
 }
 
-/// Whether one of these settings has this key.
 fn has_key(settings: Option<&str>, key: &str) -> bool
     ensures { result ≡ list_any (has_key key.now) (later_pieces (option_map (λ t. t.now) settings.entry)) }
 {
@@ -97,7 +93,6 @@ fn has_key(settings: Option<&str>, key: &str) -> bool
     false
 }
 
-/// The key of a setting.
 fn key_of(setting: &str) -> &str
     ensures { result.now ≡ key_of setting.now }
 {
@@ -107,7 +102,7 @@ fn key_of(setting: &str) -> &str
     }
 }
 
-/// What stands before the first comma, and what follows it, if there is one.
+/// Returns what precedes the first comma, and what follows it, if there is one.
 fn first_piece(text: &str) -> (&str, Option<&str>)
     ensures pieces { pieces text.now ≡ result.0.now ∷ later_pieces (option_map (λ t. t.now) result.1) }
     ensures shorter { IfSome result.1 (λ later. length later.now < length text.now) }
@@ -118,7 +113,6 @@ fn first_piece(text: &str) -> (&str, Option<&str>)
     }
 }
 
-/// The format with a setting, which is a key, or a key and its value.
 fn with_setting<'a>(format: Format<'a>, setting: &'a str) -> Result<Format<'a>, FormatFault<'a>>
     ensures { seen result ≡ setting_said (form format.entry) setting.now }
 {
@@ -128,7 +122,6 @@ fn with_setting<'a>(format: Format<'a>, setting: &'a str) -> Result<Format<'a>, 
     }
 }
 
-/// The format of a name, before any key.
 fn format_named(name: &str) -> Option<Format<'static>>
     ensures { option_map form result ≡ form_named name.now }
 {
@@ -147,7 +140,6 @@ fn format_named(name: &str) -> Option<Format<'static>>
     }
 }
 
-/// The sample of a name.
 fn sample_named(name: &str) -> Option<Sample>
     ensures { result ≡ sample_named name.now }
 {
@@ -173,7 +165,6 @@ fn sample_named(name: &str) -> Option<Sample>
     }
 }
 
-/// A sample that does not clip.
 fn plain_sample(width: Width, coding: Coding, endian: Endian) -> Sample
     ensures { result ≡ plain_sample width coding endian }
 {

@@ -1,12 +1,11 @@
-//! Sources of which some bytes were read.
+//! Sources that are partly read.
 ghost use Rattle.std.specs.Prelude.{◌≡◌, ◌≤◌, ◌-◌, length, take, min, vec_len, option_map};
 ghost use Rattle.std.specs.Option.{option_map_or};
 
 use kpn_front::Source;
 use std::io;
 
-/// A source of which some bytes were read: these come first again, and then the source is read on, to so many bytes in
-/// all if that is told.
+/// A source whose first bytes were already read: it yields these again, then reads on, up to a total size, if known.
 #[derive(Drop)]
 pub struct Resumed<S> {
     pub(crate) held: Vec<u8>,
@@ -39,7 +38,7 @@ impl<S: Source> Source for Resumed<S> {
     }
 }
 
-/// How many bytes are read at most into a buffer of this length.
+/// Returns how many bytes to read at most into a buffer of this length.
 fn most_of(left: Option<u64>, length: usize) -> usize
     ensures { result ≡ option_map_or (λ n. min n length) left length }
 {
@@ -49,7 +48,6 @@ fn most_of(left: Option<u64>, length: usize) -> usize
     }
 }
 
-/// How many bytes are left of so many.
 fn less(left: Option<u64>, read: usize) -> Option<u64>
     ensures { result ≡ option_map (λ n. n - read) left }
 {
@@ -59,7 +57,7 @@ fn less(left: Option<u64>, read: usize) -> Option<u64>
     }
 }
 
-/// Copies as many bytes to the front of a buffer as there are and as it has room for. Returns how many.
+/// Copies as many bytes as fit to the front of a buffer. Returns how many.
 fn copy_front(bytes: &[u8], buf: &mut [u8]) -> usize
     ensures count { result ≡ min (length bytes.now) (length buf.old) }
     ensures copied { take result buf.new ≡ take result bytes.now }

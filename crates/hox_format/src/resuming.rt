@@ -1,4 +1,4 @@
-//! Files that are read on from where their records begin.
+//! Opens files at their records.
 ghost use Rattle.std.specs.Prelude.{◌≡◌, ◌≤◌, ◌++◌, ℕ, List, false, drop, vec_len, Option, IfErr, IfOk, OnOk};
 ghost use Rattle.hox_format.specs.Forms.{form};
 ghost use Rattle.hox_format.specs.Resuming.{IsBegun, IsFrontOf, IsNoHead, IsUnbegun, left_in, left_of, resumed_has_failed, source_of};
@@ -11,11 +11,11 @@ use kpn_tokens::Layout;
 use std::alloc::Global;
 use std::io;
 
-/// How many bytes one read takes at most while a file is begun.
+/// How many bytes one read takes at most.
 const PIECE: usize = 4096;
 
 impl<S> Resumed<S> {
-    /// Returns the source that is read on.
+    /// Returns the underlying source.
     pub fn source(&self) -> &S
         ensures { result.now ≡ source_of self.now }
     {
@@ -23,8 +23,7 @@ impl<S> Resumed<S> {
     }
 }
 
-/// A file that was read to where its records begin: what is left of it, how they are laid out, and how many samples a
-/// second there are if that is told.
+/// A file read up to its records: the rest of it, the layout, and the samples per second, if stated.
 #[derive(Drop)]
 pub struct Begun<S> {
     pub source: S,
@@ -32,7 +31,7 @@ pub struct Begun<S> {
     pub rate: Option<u32>,
 }
 
-/// Why a file was not begun: what stands before its records is refused; or it can't be read; or memory was refused.
+/// Why a file was not opened at its records: what precedes them is faulty, a read failed, or out of memory.
 #[derive(Clone, Copy, Debug)]
 pub enum BeginFault {
     Head(HeadFault),
@@ -40,7 +39,7 @@ pub enum BeginFault {
     Memory,
 }
 
-/// Reads a file of this format to where the records of the channel at `place` of `count` begin.
+/// Reads a file up to the records of the channel at `place` of `count`.
 ///
 /// Errors: see [`BeginFault`].
 pub fn begin<S: Source + Drop>(
@@ -77,7 +76,7 @@ pub fn begin<S: Source + Drop>(
     Err(BeginFault::Memory)
 }
 
-/// A file that is being begun: what was read of it, the rest of it, and whether there is none.
+/// A partly read file: what was read, the rest, and whether the rest is empty.
 #[derive(Drop)]
 struct Front<S> {
     held: Vec<u8>,
@@ -85,7 +84,6 @@ struct Front<S> {
     is_last: bool,
 }
 
-/// A file whose first bytes tell of this body.
 fn resumed_at<S: Source>(front: Front<S>, body: Body) -> Begun<Resumed<S>>
     requires { body.start ≤ vec_len front.held }
     ensures left { left_of S.remaining result.source ≡ left_in body.size (drop body.start front.held.items) (S.remaining front.source) }
@@ -110,7 +108,7 @@ fn resumed_at<S: Source>(front: Front<S>, body: Body) -> Begun<Resumed<S>>
     }
 }
 
-/// Reads a piece more.
+/// Reads another piece.
 fn read_on<S: Source>(front: &mut Front<S>) -> Result<(), BeginFault>
     ensures reads { OnOk result ((known : Option (List ℕ)) → IsFrontOf known front.old.held.items front.old.is_last (S.remaining front.old.source) → IsFrontOf known front.new.held.items front.new.is_last (S.remaining front.new.source)) }
     ensures unfailed { S.has_failed front.old.source ≡ false → OnOk result (S.has_failed front.new.source ≡ false) }
@@ -126,7 +124,6 @@ fn read_on<S: Source>(front: &mut Front<S>) -> Result<(), BeginFault>
     }
 }
 
-/// Appends bytes.
 fn append(held: &mut Vec<u8>, bytes: &[u8]) -> Result<(), BeginFault>
     ensures appended { OnOk result (held.new.items ≡ held.old.items ++ bytes.now) }
     ensures fault { IfErr result IsNoHead }

@@ -9,7 +9,7 @@ use crate::formats::{Csv, Format, Raw, Wav, Which, unsigned};
 use crate::parsing::FormatFault;
 use kpn_tokens::{Decimals, Sample, Separator, Width};
 
-/// The format with a key that takes no value.
+/// Sets a key without a value.
 pub(crate) fn with_flag<'a>(format: Format<'a>, key: &'a str) -> Result<Format<'a>, FormatFault<'a>>
     ensures { seen result ≡ flag_said (form format.entry) key.now }
 {
@@ -25,7 +25,6 @@ pub(crate) fn with_flag<'a>(format: Format<'a>, key: &'a str) -> Result<Format<'
     }
 }
 
-/// A text with a key, if it has the key.
 fn text_flag(decimals: Decimals, key: &str) -> Option<Format<'static>>
     ensures { option_map form result ≡ text_flag decimals key.now }
 {
@@ -35,7 +34,6 @@ fn text_flag(decimals: Decimals, key: &str) -> Option<Format<'static>>
     }
 }
 
-/// A CSV file with a key, if it has the key.
 fn csv_flag<'a>(csv: Csv<'a>, key: &str) -> Option<Format<'a>>
     ensures { option_map form result ≡ csv_flag (table_of csv.entry) key.now }
 {
@@ -52,7 +50,6 @@ fn csv_flag<'a>(csv: Csv<'a>, key: &str) -> Option<Format<'a>>
     }
 }
 
-/// A WAV file with a key, if it has the key.
 fn wav_flag(wav: Wav, key: &str) -> Option<Format<'static>>
     ensures { option_map form result ≡ wav_flag wav key.now }
 {
@@ -62,7 +59,6 @@ fn wav_flag(wav: Wav, key: &str) -> Option<Format<'static>>
     }
 }
 
-/// Samples with a key, if they have the key.
 fn raw_flag(raw: Raw, key: &str) -> Option<Format<'static>>
     ensures { option_map form result ≡ raw_flag raw key.now }
 {
@@ -78,7 +74,7 @@ fn raw_flag(raw: Raw, key: &str) -> Option<Format<'static>>
     }
 }
 
-/// The format with a key and its value.
+/// Sets a key to a value.
 pub(crate) fn with_value<'a>(
     format: Format<'a>,
     key: &'a str,
@@ -94,7 +90,6 @@ pub(crate) fn with_value<'a>(
     }
 }
 
-/// A format with a value of a key, if the key takes it.
 fn taken<'a>(
     key: &'a str,
     value: &'a str,
@@ -108,7 +103,6 @@ fn taken<'a>(
     }
 }
 
-/// A text with a key and its value.
 fn text_value<'a>(
     decimals: Decimals,
     key: &'a str,
@@ -122,7 +116,6 @@ fn text_value<'a>(
     }
 }
 
-/// A text with so many digits after the point.
 fn text_digits(decimals: Decimals, value: &str) -> Option<Format<'static>>
     ensures { option_map form result ≡ option_map lines (digits_said decimals value.now) }
 {
@@ -130,7 +123,6 @@ fn text_digits(decimals: Decimals, value: &str) -> Option<Format<'static>>
     Some(Format::Text(decimals))
 }
 
-/// A CSV file with a key and its value.
 fn csv_value<'a>(csv: Csv<'a>, key: &'a str, value: &'a str) -> Result<Format<'a>, FormatFault<'a>>
     ensures { seen result ≡ csv_value (table_of csv.entry) key.now value.now }
 {
@@ -142,7 +134,7 @@ fn csv_value<'a>(csv: Csv<'a>, key: &'a str, value: &'a str) -> Result<Format<'a
     }
 }
 
-/// A CSV file whose column is chosen. One that has a name has a row of names.
+/// Chooses the column of a CSV file. A name implies a row of names.
 fn csv_column<'a>(csv: Csv<'a>, value: &'a str) -> Option<Format<'a>>
     ensures { option_map form result ≡ option_map (with_column (table_of csv.entry)) (column_said value.now) }
 {
@@ -159,7 +151,7 @@ fn csv_column<'a>(csv: Csv<'a>, value: &'a str) -> Option<Format<'a>>
     }
 }
 
-/// The column that a text says: digits are its place, counted from 1.
+/// Parses a column: digits are its place, counted from 1.
 fn column_in(value: &str) -> Option<Which<'_>>
     ensures { option_map chosen result ≡ column_said value.now }
 {
@@ -173,7 +165,6 @@ fn column_in(value: &str) -> Option<Which<'_>>
     Some(Which::Place(place as usize))
 }
 
-/// A CSV file with this between its fields.
 fn csv_delimiter<'a>(csv: Csv<'a>, value: &str) -> Option<Format<'a>>
     ensures { option_map form result ≡ option_map (with_separator (table_of csv.entry)) (separator_said value.now) }
 {
@@ -181,7 +172,6 @@ fn csv_delimiter<'a>(csv: Csv<'a>, value: &str) -> Option<Format<'a>>
     Some(Format::Csv(Csv { separator, ..csv }))
 }
 
-/// The separator that a text says.
 fn separator_in(value: &str) -> Option<Separator>
     ensures { result ≡ separator_said value.now }
 {
@@ -195,7 +185,6 @@ fn separator_in(value: &str) -> Option<Separator>
     }
 }
 
-/// A CSV file with so many digits after the point.
 fn csv_digits<'a>(csv: Csv<'a>, value: &str) -> Option<Format<'a>>
     ensures { option_map form result ≡ option_map (with_decimals (table_of csv.entry)) (digits_said csv.entry.decimals value.now) }
 {
@@ -203,7 +192,6 @@ fn csv_digits<'a>(csv: Csv<'a>, value: &str) -> Option<Format<'a>>
     Some(Format::Csv(Csv { decimals, ..csv }))
 }
 
-/// Words with so many digits after the point.
 fn with_digits(decimals: Decimals, value: &str) -> Option<Decimals>
     ensures { result ≡ digits_said decimals value.now }
 {
@@ -214,7 +202,6 @@ fn with_digits(decimals: Decimals, value: &str) -> Option<Decimals>
     })
 }
 
-/// A WAV file with a key and its value.
 fn wav_value<'a>(wav: Wav, key: &'a str, value: &'a str) -> Result<Format<'a>, FormatFault<'a>>
     ensures { seen result ≡ wav_value wav key.now value.now }
 {
@@ -226,7 +213,6 @@ fn wav_value<'a>(wav: Wav, key: &'a str, value: &'a str) -> Result<Format<'a>, F
     }
 }
 
-/// A WAV file whose channel is chosen.
 fn wav_channel(wav: Wav, value: &str) -> Option<Format<'static>>
     ensures { option_map form result ≡ option_map (λ channel. wave (record wav { channel = Some channel })) (place_said 65535 value.now) }
 {
@@ -237,7 +223,6 @@ fn wav_channel(wav: Wav, value: &str) -> Option<Format<'static>>
     }))
 }
 
-/// A WAV file with samples of so many bits.
 fn wav_bits(wav: Wav, value: &str) -> Option<Format<'static>>
     ensures { option_map form result ≡ option_map (λ width. wave (record wav { width = width })) (width_said value.now) }
 {
@@ -245,7 +230,6 @@ fn wav_bits(wav: Wav, value: &str) -> Option<Format<'static>>
     Some(Format::Wav(Wav { width, ..wav }))
 }
 
-/// The width of so many bits, if WAV files have it.
 fn width_in(value: &str) -> Option<Width>
     ensures { result ≡ width_said value.now }
 {
@@ -258,7 +242,6 @@ fn width_in(value: &str) -> Option<Width>
     }
 }
 
-/// A WAV file with so many samples a second.
 fn wav_rate(wav: Wav, value: &str) -> Option<Format<'static>>
     ensures { option_map form result ≡ option_map (λ rate. wave (record wav { rate = Some rate })) (count_said (2 ^ 32 - 1) value.now) }
 {
@@ -269,7 +252,6 @@ fn wav_rate(wav: Wav, value: &str) -> Option<Format<'static>>
     }))
 }
 
-/// Samples with a key and its value.
 fn raw_value<'a>(raw: Raw, key: &'a str, value: &'a str) -> Result<Format<'a>, FormatFault<'a>>
     ensures { seen result ≡ raw_value raw key.now value.now }
 {
@@ -280,7 +262,7 @@ fn raw_value<'a>(raw: Raw, key: &'a str, value: &'a str) -> Result<Format<'a>, F
     }
 }
 
-/// Samples whose channel is chosen, if there is such a channel as far as it is said how many there are.
+/// Chooses a channel of samples, if the number of channels allows it or is not stated.
 fn raw_channel(raw: Raw, value: &str) -> Option<Format<'static>>
     ensures { option_map form result ≡ option_map samples (with_channel raw (place_said 65535 value.now)) }
 {
@@ -294,7 +276,7 @@ fn raw_channel(raw: Raw, value: &str) -> Option<Format<'static>>
     }
 }
 
-/// Samples of so many channels, if the chosen one, as far as it is said, is one of these.
+/// States the number of channels of samples, if the chosen channel allows it or is not stated.
 fn raw_channels(raw: Raw, value: &str) -> Option<Format<'static>>
     ensures { option_map form result ≡ option_map samples (with_channels raw (count_said 65535 value.now)) }
 {
@@ -308,7 +290,7 @@ fn raw_channels(raw: Raw, value: &str) -> Option<Format<'static>>
     }
 }
 
-/// The number that a text says from 1 on, counted from 0.
+/// Parses a number counted from 1, and returns it counted from 0.
 fn place_in(value: &str, most: u64) -> Option<u64>
     ensures is { result ≡ place_said most value.now }
     ensures below { IfSome result (λ place. place < most) }
@@ -317,7 +299,6 @@ fn place_in(value: &str, most: u64) -> Option<u64>
     Some(count - 1)
 }
 
-/// The number that a text says, if it is at least 1.
 fn count_in(value: &str, most: u64) -> Option<u64>
     ensures is { result ≡ count_said most value.now }
     ensures some { IfSome result (λ count. (0 < count) × (count ≤ most)) }
@@ -328,7 +309,7 @@ fn count_in(value: &str, most: u64) -> Option<u64>
     }
 }
 
-/// The number that a text of digits says, if it is no greater than this.
+/// Parses a number in digits, at most `most`.
 fn number_in(value: &str, most: u64) -> Option<u64>
     ensures is { result ≡ number_said most value.now }
     ensures within { IfSome result (λ number. number ≤ most) }
@@ -342,14 +323,12 @@ fn number_in(value: &str, most: u64) -> Option<u64>
     }
 }
 
-/// Whether a text is digits alone.
 fn is_number(value: &str) -> bool
     ensures { result ≡ is_number value.now }
 {
     !value.is_empty() && are_digits(value)
 }
 
-/// Whether there is nothing but digits in a text.
 fn are_digits(value: &str) -> bool
     ensures { result ≡ list_all is_ascii_digit value.now }
 {

@@ -6,16 +6,14 @@ ghost use Rattle.hox_format.specs.Tables.{decimals_of, is_so_many, shared_by, sh
 use crate::formats::{Csv, Format, Raw, Wav};
 use kpn_tokens::{Decimals, Sample, Table, wav_sample};
 
-/// What channels have in common that stand side by side in one file: how they stand there, and what stands before
-/// them.
+/// The arrangement that channels side by side in a file share, and what precedes them.
 #[derive(Clone, Copy, Debug, PartialEq, Eq)]
 pub struct Shared {
     pub table: Table,
     pub head: Head,
 }
 
-/// What stands before the tokens in a file: nothing, a row of names, or the head of a WAV file, with so many samples a
-/// second if it is said.
+/// What precedes the tokens in a file: nothing, a row of names, or a WAV head, with the samples per second if stated.
 #[derive(Clone, Copy, Debug, PartialEq, Eq)]
 pub enum Head {
     Nothing,
@@ -23,8 +21,8 @@ pub enum Head {
     Wav(Option<u32>),
 }
 
-/// Returns what so many channels of a file of this format have in common; `None` if it is for one channel alone: if a
-/// line has one token, or the format chooses a column or a channel, or says that there are more or less channels.
+/// Returns what `count` channels in a file of this format share. Returns `None` if the file is for one channel: if a
+/// line has one token, or the format chooses a column or channel, or states another number of channels.
 pub fn shared_by(format: &Format<'_>, count: usize) -> Option<Shared>
     ensures { result ≡ shared_by (form format.now) count }
 {
@@ -39,7 +37,6 @@ pub fn shared_by(format: &Format<'_>, count: usize) -> Option<Shared>
     }
 }
 
-/// What the columns of a CSV file have in common.
 fn shared_rows(csv: &Csv<'_>) -> Shared
     ensures { result ≡ shared_rows csv.now.separator csv.now.has_header }
 {
@@ -54,7 +51,6 @@ fn shared_rows(csv: &Csv<'_>) -> Shared
     }
 }
 
-/// What the channels of a WAV file have in common.
 fn shared_wave(wav: &Wav) -> Shared
     ensures { result ≡ shared_wave wav.now }
 {
@@ -68,7 +64,6 @@ fn shared_wave(wav: &Wav) -> Shared
     }
 }
 
-/// What channels of samples have in common.
 fn shared_samples(raw: &Raw) -> Shared
     ensures { result ≡ shared_samples raw.now }
 {
@@ -78,7 +73,6 @@ fn shared_samples(raw: &Raw) -> Shared
     }
 }
 
-/// Whether there are so many channels, as far as it is said.
 fn is_so_many(channels: Option<u16>, count: usize) -> bool
     ensures { result ≡ is_so_many channels count }
 {
@@ -88,8 +82,7 @@ fn is_so_many(channels: Option<u16>, count: usize) -> bool
     }
 }
 
-/// Returns how a word is written in a file of this format; whole and with a sign where there are samples, of which it
-/// says nothing.
+/// Returns how a word is written in this format; whole and signed for samples.
 pub fn decimals_of(format: &Format<'_>) -> Decimals
     ensures { result ≡ decimals_of (form format.now) }
 {

@@ -1,4 +1,4 @@
--- The sorts of channels, which their ports say; and a sketch as it is meant.
+-- The sorts of channels by their ports, and the completed sketch.
 use Rattle.std.specs.Prelude.{ℕ, List, Option, Some, map}
 use Rattle.kpn_model.specs.declared.token.Sort.{Sort}
 use Rattle.kpn_model.specs.declared.token.Sort.TheVariants.{Words, Flags}
@@ -10,22 +10,20 @@ use Rattle.kpn_net.specs.Faults.{sketched_out_sort, sketched_in_sort}
 use Rattle.hox_network.specs.Budgets.{with_greatest_budget}
 use Rattle.hox_network.specs.Signs.{with_signs}
 
--- the sort of two ports where they agree, and else the one that is given
+-- the sort of two ports if they agree, else the given one
 abbrev pub agreed : Option Sort → Option Sort → Sort → Sort
 agreed (Some Words) (Some Words) sort = Words
 agreed (Some Flags) (Some Flags) sort = Flags
 agreed _ _ sort = sort
 
 module _ (named : List ℕ → Option (ℕ × ℕ)) (signature : Card → Option Signature) where
-  -- a channel of a sketch with the sort of its ports, where they agree
   abbrev pub channel_by_ports : Sketch → ChannelSketch → ChannelSketch
   channel_by_ports sketch c = record c { sort = agreed (sketched_out_sort named signature sketch c) (sketched_in_sort named signature sketch c) c.sort }
 
-  -- a sketch all of whose channels have the sorts of their ports, where these agree
+  -- a sketch whose channels have the sorts of their ports, where these agree
   abbrev pub by_ports : Sketch → Sketch
   by_ports sketch = record sketch { channels = map (channel_by_ports sketch) sketch.channels }
 
-  -- the sketch of a text as it is meant: if the text says no budget, it has the greatest; processes with arguments below 0 are of the kinds
-  -- that take them, and start tokens below 0 are words; and then the ports say the sorts
+  -- the completed sketch: the default budget, then signed kinds and start tokens, then the sorts of ports
   abbrev pub as_meant : List ℕ → Sketch → Sketch
   as_meant text sketch = by_ports (with_signs named signature (with_greatest_budget text sketch))

@@ -1,4 +1,4 @@
--- Networks whose channels hold at first what token files say.
+-- Networks with start tokens from files.
 use Rattle.std.specs.Prelude.{◌≡◌, ◌≤◌, ◌<◌, ℕ, suc, List, [], ◌∷◌, length, max, min, set, Option, Some, None, if◌then◌else◌, nat_le}
 use Rattle.kpn_model.specs.declared.token.Token.{Token}
 use Rattle.kpn_model.specs.declared.token.Sort.{Sort}
@@ -12,44 +12,44 @@ use Rattle.hox_network.specs.declared.request.TokenFile.{TokenFile}
 use Rattle.hox_network.specs.declared.presets.FileFault.{FileFault}
 use Rattle.hox_network.specs.declared.presets.FileFault.TheVariants.{NoChannel, Record, TooMany, Memory}
 
--- a channel that holds these tokens at first, and has room for them
+-- a channel with these start tokens, and room for them
 abbrev pub holding : List Token → Channel → Channel
 holding tokens c = record c { capacity = max c.capacity (length tokens); tokens = tokens }
 
--- the network in which channel c holds these tokens at first
+-- the network with these start tokens on channel c
 abbrev pub with_tokens : Network → ℕ → List Token → Network
 with_tokens net c tokens = record net { channels = set net.channels c (holding tokens (channel_of net c)) }
 
--- how many tokens a file may say: no channel may hold more
+-- how many tokens a file may have: the limit of a channel
 abbrev pub most_in : Network → ℕ
 most_in net = min net.ceiling MOST_TOKENS
 
--- the records of the file say these tokens, of the sort of channel c, whose name the file gives; they are no more than a channel may hold
+-- the file names channel c, and its records are these tokens, of c's sort and within c's limit
 pub record Presets (net : Network) (file : TokenFile) (c : ℕ) (tokens : List Token) : Type 0 where
   pub channel : number_of_channel net file.channel ≡ Some c
   pub says : Say file.layout (channel_of net c).sort file.bytes tokens
   pub few : length tokens ≤ most_in net
 
--- one file after the other, each channel that a file names holds that file's tokens at first
+-- the files set the start tokens of their channels, one after the other
 pub data PresetAll : List TokenFile → Network → Network → Type 0 where
   none : {net : Network} → PresetAll [] net net
   one : {net other : Network} {file : TokenFile} {files : List TokenFile} (c : ℕ) (tokens : List Token) → Presets net file c tokens
       → PresetAll files (with_tokens net c tokens) other → PresetAll (file ∷ files) net other
 
--- when each fault is found in the bytes of a file: a record says no token of this sort, and it is the first; the first records say more
--- tokens than may be; or memory was refused
+-- when a file's bytes have each fault: this record is the first that is no token; the first records have too
+-- many tokens; or out of memory
 abbrev pub IsBytesFault : Layout → Sort → List ℕ → ℕ → FileFault → Type 0
 IsBytesFault layout sort bytes most NoChannel = ⊥
 IsBytesFault layout sort bytes most (Record number fault) = Fails layout sort bytes number fault
 IsBytesFault layout sort bytes most (TooMany n) = (n ≡ most) × (tokens : List Token) × Begin layout sort bytes tokens × (most < length tokens)
 IsBytesFault layout sort bytes most Memory = Unit {0}
 
--- no channel has the name that the file gives, or its bytes have a fault
+-- the file names no channel, or its bytes are faulty
 abbrev pub IsFileFault : Network → TokenFile → FileFault → Type 0
 IsFileFault net file NoChannel = number_of_channel net file.channel ≡ None
 IsFileFault net file fault = (c : ℕ) × (number_of_channel net file.channel ≡ Some c) × IsBytesFault file.layout (channel_of net c).sort file.bytes (most_in net) fault
 
--- the file of this number, counted from 0, has the fault, and none before it has one
+-- the file of this number, from 0, is the first with a fault
 pub data Stops : List TokenFile → Network → ℕ → FileFault → Type 0 where
   here : {net : Network} {file : TokenFile} {files : List TokenFile} {fault : FileFault} → IsFileFault net file fault → Stops (file ∷ files) net 0 fault
   later : {net : Network} {file : TokenFile} {files : List TokenFile} {fault : FileFault} {number : ℕ} (c : ℕ) (tokens : List Token) → Presets net file c tokens
@@ -59,7 +59,7 @@ pub data Stops : List TokenFile → Network → ℕ → FileFault → Type 0 whe
 abbrev pub greatest_budget : ℕ → ℕ
 greatest_budget ceiling = if nat_le ceiling CEILING then GREATEST_BUDGET else GREATEST_HIGH_BUDGET
 
--- the network with the budget that is asked for, if one is
+-- the network with the requested budget, if any
 abbrev pub with_budget : Option ℕ → Network → Network
 with_budget None net = net
 with_budget (Some budget) net = record net { budget = budget }

@@ -1,4 +1,4 @@
--- With what a program exits that meets a fault.
+-- The exit status for a fault.
 use Rattle.kpn_front.specs.declared.status.Status.{Status}
 use Rattle.kpn_front.specs.declared.status.Status.TheVariants.{WrongArguments, Refused, MemoryRefused, Lost as WasLost}
 use Rattle.kpn_front.specs.Lines.{status_of_fault as status_of_description}

@@ -1,4 +1,4 @@
-//! The budget of a description that says none.
+//! The default budget of a description.
 ghost use Rattle.std.specs.Prelude.{◌≡◌, ℕ, List, IsUtf8, IfOk, None};
 ghost use Rattle.toml.specs.Errors.{IsMemory};
 ghost use Rattle.toml.specs.Parse.{parse_document};
@@ -11,7 +11,7 @@ use std::alloc::{AllocError, Global};
 use toml::Table;
 use toml::de::Error;
 
-/// The sketch of a text, with the greatest budget of its version if the text says none.
+/// Sets the budget to the greatest of the version if the text states none.
 pub(crate) fn with_greatest_budget(
     alloc: Global,
     text: &[u8],
@@ -27,7 +27,6 @@ pub(crate) fn with_greatest_budget(
     Ok(Sketch { budget, ..sketch })
 }
 
-/// Whether a text says a budget.
 fn says_budget(alloc: Global, text: &[u8]) -> Result<bool, AllocError>
     requires { IsUtf8 text.now }
     ensures { IfOk result (λ says. says ≡ says_budget text.now) }
@@ -38,7 +37,7 @@ fn says_budget(alloc: Global, text: &[u8]) -> Result<bool, AllocError>
     }
 }
 
-/// A text that is no TOML says no budget; if memory was refused, nothing is known of it.
+/// A text that is no TOML states no budget. Errors: out of memory.
 fn none_of(error: &Error) -> Result<bool, AllocError>
     ensures { (text : List ℕ) → ((IsMemory error.now → ⊥) → IsUtf8 text → parse_document text ≡ None) → IsUtf8 text → IfOk result (λ says. says ≡ says_budget text) }
 {
@@ -49,7 +48,6 @@ fn none_of(error: &Error) -> Result<bool, AllocError>
     }
 }
 
-/// Whether a budget stands in a table.
 fn has_budget(table: &Table) -> bool
     ensures { result ≡ has_budget (table_view table.now) }
 {

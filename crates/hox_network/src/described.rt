@@ -1,5 +1,4 @@
-//! Descriptions that need not say of which sort a channel is or which budget a run has, and that may have
-//! arguments and start tokens below 0.
+//! Reads descriptions that may omit sorts and the budget, and may have negative arguments and start tokens.
 ghost use Rattle.std.specs.Prelude.{◌≡◌, ◌≤◌, ◌+◌, false, true, IfOk, IfErr, IfSome, IsUtf8, length, map};
 ghost use Rattle.kpn_sketch.specs.declared.sketch.Sketch.{Sketch as SketchV};
 ghost use Rattle.kpn_sketch.specs.Description.{Describes};
@@ -16,14 +15,13 @@ use kpn_net::faults::{in_sort, out_sort};
 use kpn_net::{ChannelSketch, Check, Net, NetFault, Sketch, read_sketch};
 use std::alloc::{AllocError, Global};
 
-/// Reads a description to its end, and makes its network, in which each channel has the sort of its two
-/// ports, whatever the description says, if they have the same. A process whose arguments are below 0, the
-/// first alone or the first and others, is of the kind with its kind's name and `, signed`, if there is one and
-/// it takes them: for an argument -1 - n it is given n, and how many are below 0 as one argument more. A start
-/// token below 0 is the word that stands for it in two's complement. If the description says no budget, the
-/// network has the greatest of its version. Reads at most 1,048,577 bytes.
+/// Reads a description to its end, and makes its network. A channel gets the sort of its two ports if they
+/// agree, whatever the description says. A process with a negative first argument gets the kind `KIND,
+/// signed` if that exists and takes the arguments: each argument -1 - n becomes n, and one more argument
+/// counts how many of the first two are negative. A negative start token is read as two's complement. Without
+/// a stated budget, the network gets the greatest of its version. Reads at most 1,048,577 bytes.
 ///
-/// Errors: as those of `kpn_front::load_or_refuse`, with the text.
+/// Errors: those of `kpn_front::load_or_refuse`, with the text.
 pub fn load_by_ports<K: Kinds, S: Source>(alloc: Global, source: &mut S) -> Result<Net<K>, Refused>
     ensures loads { S.has_failed source.old ≡ false → IfSome (S.remaining source.old) (λ text. LoadsChanged (as_meant K.named K.signature text) K.named K.signature (S.has_failed source.new) text (without_text result)) }
     ensures failed { S.has_failed source.old ≡ false → S.has_failed source.new ≡ true → without_text result ≡ Err NetFault.Input }
@@ -42,7 +40,6 @@ pub fn load_by_ports<K: Kinds, S: Source>(alloc: Global, source: &mut S) -> Resu
     }
 }
 
-/// The network that a text describes.
 fn net_of_text<K: Kinds>(alloc: Global, text: &[u8]) -> Result<Net<K>, NetFault>
     requires { length text.now ≤ longest }
     ensures { LoadsChanged (as_meant K.named K.signature text.now) K.named K.signature false text.now result }
@@ -52,8 +49,7 @@ fn net_of_text<K: Kinds>(alloc: Global, text: &[u8]) -> Result<Net<K>, NetFault>
     Net::check(alloc, &meant)
 }
 
-/// Returns the sketch that a text describes, as `load_by_ports` makes a network of it; `None` if it describes
-/// none, or memory was refused.
+/// Returns the sketch of a text as `load_by_ports` completes it; `None` if the text describes none, or out of memory.
 pub fn sketch_by_ports<K: Kinds>(alloc: Global, text: &[u8]) -> Option<Sketch>
     ensures { IfSome result (λ sketch. (described : SketchV) × Describes text.now described × (sketch ≡ as_meant K.named K.signature text.now described)) }
 {
@@ -63,7 +59,7 @@ pub fn sketch_by_ports<K: Kinds>(alloc: Global, text: &[u8]) -> Option<Sketch>
     }
 }
 
-/// The sketch of a text, as it is meant. Fails if memory was refused.
+/// Completes the sketch of a text. Errors: out of memory.
 fn as_meant<K: Kinds>(alloc: Global, text: &[u8], sketch: Sketch) -> Result<Sketch, NetFault>
     requires { IsUtf8 text.now }
     ensures ok { IfOk result (λ meant. meant ≡ as_meant K.named K.signature text.now sketch) }
@@ -75,8 +71,7 @@ fn as_meant<K: Kinds>(alloc: Global, text: &[u8], sketch: Sketch) -> Result<Sket
     }
 }
 
-/// The sketch of a text with the budget that it is to have, with the kinds that take arguments below 0, and with
-/// words for start tokens below 0.
+/// Sets the default budget, the signed kinds and the signed start tokens.
 fn signed_with_budget<K: Kinds>(
     alloc: Global,
     text: &[u8],
@@ -89,7 +84,7 @@ fn signed_with_budget<K: Kinds>(
     with_signs::<K>(alloc, budgeted)
 }
 
-/// The sketch, with the sorts of the ports. Fails if memory was refused.
+/// Gives the channels the sorts of their ports. Errors: out of memory.
 fn sorted_by_ports<K: Kinds>(alloc: Global, sketch: Sketch) -> Result<Sketch, NetFault>
     ensures ok { IfOk result (λ sorted. sorted ≡ by_ports K.named K.signature sketch) }
     ensures memory { IfErr result (λ e. e ≡ NetFault.Memory) }
@@ -115,7 +110,6 @@ fn sorted_by_ports<K: Kinds>(alloc: Global, sketch: Sketch) -> Result<Sketch, Ne
     })
 }
 
-/// The channels, with the sorts of their ports at the processes of a sketch. Fails if memory was refused.
 fn channels_by_ports<K: Kinds>(
     alloc: Global,
     sketch: &Sketch,
@@ -133,7 +127,6 @@ fn channels_by_ports<K: Kinds>(
     Ok(sorted)
 }
 
-/// A channel, with the sort of its ports.
 fn channel_by_ports<K: Kinds>(sketch: &Sketch, channel: ChannelSketch) -> ChannelSketch
     ensures { result ≡ channel_by_ports K.named K.signature sketch.now channel }
 {
@@ -142,7 +135,7 @@ fn channel_by_ports<K: Kinds>(sketch: &Sketch, channel: ChannelSketch) -> Channe
     ChannelSketch { sort, ..channel }
 }
 
-/// The sort of two ports where they agree, and else this one.
+/// Returns the sort of two ports if they agree, else `sort`.
 fn agreed(out: Option<Sort>, input: Option<Sort>, sort: Sort) -> Sort
     ensures { result ≡ agreed out input sort }
 {

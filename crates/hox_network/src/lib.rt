@@ -1,5 +1,5 @@
-//! The network of a description as it is asked for: with the sorts of its ports, with arguments and start tokens below 0,
-//! with tokens of files in its channels and with another budget, from bytes to a network.
+//! Makes the network of a description as requested: with sorts from ports, negative arguments and start
+//! tokens, tokens from files and another budget.
 #![tactic(auto)]
 
 mod budget;

@@ -8,7 +8,7 @@ use std::alloc::{AllocError, Global};
 
 /// Returns the names of a network's channels, in order.
 ///
-/// Errors: memory was refused.
+/// Errors: out of memory.
 pub fn channel_names<K: Kinds>(alloc: Global, net: &Net<K>) -> Result<Listed<Text>, AllocError>
     ensures { IfOk result (λ names. names ≡ channel_names net.now) }
 {
@@ -19,7 +19,6 @@ pub fn channel_names<K: Kinds>(alloc: Global, net: &Net<K>) -> Result<Listed<Tex
     Ok(Listed::new(names))
 }
 
-/// The name of channel `c` of a network.
 #[tactic(auto, using(crate::proofs::Copied::named_at))]
 fn name_of<K: Kinds>(alloc: Global, net: &Net<K>, c: usize) -> Result<Text, AllocError>
     requires { c < length net.now.channels }

@@ -1,4 +1,4 @@
-//! The parts of a network, once more.
+//! Copies the parts of a network.
 ghost use Rattle.std.specs.Prelude.{◌≡◌, ◌<◌, IfOk, Some, length, slice_get};
 ghost use Rattle.kpn_network.specs.Parts.{network_of};
 
@@ -6,9 +6,7 @@ use kpn_model::{Channel, Kinds, Listed, Process, Text};
 use kpn_network::{Net, Parts};
 use std::alloc::{AllocError, Global};
 
-/// Returns the parts of which a network is made, copied.
-///
-/// Errors: memory was refused.
+/// Copies the parts of a network. Errors: out of memory.
 pub(crate) fn parts_of<K: Kinds>(alloc: Global, net: &Net<K>) -> Result<Parts, AllocError>
     ensures { IfOk result (λ parts. network_of parts ≡ net.now) }
 {
@@ -21,7 +19,6 @@ pub(crate) fn parts_of<K: Kinds>(alloc: Global, net: &Net<K>) -> Result<Parts, A
     })
 }
 
-/// The processes of a network, in order.
 fn processes_of<K: Kinds>(alloc: Global, net: &Net<K>) -> Result<Vec<Process>, AllocError>
     ensures { IfOk result (λ v. v.items ≡ net.now.processes) }
 {
@@ -32,7 +29,6 @@ fn processes_of<K: Kinds>(alloc: Global, net: &Net<K>) -> Result<Vec<Process>, A
     Ok(processes)
 }
 
-/// Process `p` of a network.
 fn process_of<K: Kinds>(alloc: Global, net: &Net<K>, p: usize) -> Result<Process, AllocError>
     requires { p < length net.now.processes }
     ensures { IfOk result (λ x. slice_get net.now.processes p ≡ Some x) }
@@ -43,7 +39,6 @@ fn process_of<K: Kinds>(alloc: Global, net: &Net<K>, p: usize) -> Result<Process
     })
 }
 
-/// The channels of a network, in order.
 fn channels_of<K: Kinds>(alloc: Global, net: &Net<K>) -> Result<Vec<Channel>, AllocError>
     ensures { IfOk result (λ v. v.items ≡ net.now.channels) }
 {
@@ -54,7 +49,6 @@ fn channels_of<K: Kinds>(alloc: Global, net: &Net<K>) -> Result<Vec<Channel>, Al
     Ok(channels)
 }
 
-/// Channel `c` of a network.
 fn channel_of<K: Kinds>(alloc: Global, net: &Net<K>, c: usize) -> Result<Channel, AllocError>
     requires { c < length net.now.channels }
     ensures { IfOk result (λ x. slice_get net.now.channels c ≡ Some x) }

@@ -1,4 +1,4 @@
-//! Preparing the network of a description, as it is asked for.
+//! Prepares the network of a description for a request.
 ghost use Rattle.std.specs.Prelude.{◌≡◌, ◌+◌, OnOk, IfErr, MatchResult};
 ghost use Rattle.kpn_model.specs.Valid.{IsValid};
 ghost use Rattle.kpn_network.specs.Parts.{network_of};
@@ -16,10 +16,10 @@ use kpn_model::{Kinds, Listed, Text};
 use kpn_network::{Net, Parts};
 use std::alloc::Global;
 
-/// Reads a description from the source, and returns its network, with the tokens of the request's files and
-/// with the request's budget. Nothing is run.
+/// Reads a description, and returns its network with the tokens of the request's files and the request's
+/// budget, without running it.
 ///
-/// Errors: see [`Fault`]; `NoShown`, `NoOutput` and `Lost` are none of them.
+/// Errors: see [`Fault`], except `NoShown`, `NoOutput` and `Lost`.
 pub fn prepare<K: Kinds, I: Source>(
     alloc: Global,
     request: &Request,
@@ -35,7 +35,6 @@ pub fn prepare<K: Kinds, I: Source>(
     }
 }
 
-/// A network that was loaded, with the tokens of the request's files and with the request's budget.
 fn prepare_net<K: Kinds>(alloc: Global, request: &Request, net: &Net<K>) -> Result<Net<K>, Fault>
     ensures { GivesNet request.now net.now result }
 {
@@ -47,7 +46,6 @@ fn prepare_net<K: Kinds>(alloc: Global, request: &Request, net: &Net<K>) -> Resu
     Net::of_parts(alloc, parts).map_err(|_| Fault::Memory)
 }
 
-/// Gives the parts of a network the tokens of the request's files and the request's budget.
 fn prepare_parts<K: Kinds>(
     alloc: Global,
     request: &Request,
@@ -69,7 +67,6 @@ fn prepare_parts<K: Kinds>(
     Ok(())
 }
 
-/// Gives the parts of a network the tokens of the request's files.
 fn hold_files<K: Kinds>(
     alloc: Global,
     request: &Request,
@@ -91,7 +88,6 @@ fn hold_files<K: Kinds>(
     }
 }
 
-/// The names of a network's channels, for a fault.
 fn names_in<K: Kinds>(alloc: Global, net: &Net<K>) -> Result<Listed<Text>, Fault>
     ensures { MatchResult result (λ names. names ≡ channel_names net.now) (λ e. e ≡ Fault.Memory) }
 {

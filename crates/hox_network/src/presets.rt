@@ -1,4 +1,4 @@
-//! Tokens of files, which channels hold at first.
+//! Sets start tokens from files.
 ghost use Rattle.std.specs.Prelude.{◌≡◌, ◌<◌, ◌≤◌, ◌⊎◌, ℕ, List, false, OnOk, IfOk, IfErr, IfSome, IsTrue, length};
 ghost use Rattle.std.specs.List.{AllByRecursion};
 ghost use Rattle.kpn_model.specs.declared.token.Token.{Token as TokenV};
@@ -15,31 +15,29 @@ use kpn_network::Parts;
 use kpn_tokens::{Layout, MOST_TOKENS, RecordFault, TokensFault, read_tokens};
 use std::alloc::Global;
 
-/// Why a token file is refused.
+/// Why a token file is rejected.
 #[derive(Clone, Copy, Debug, PartialEq, Eq)]
 pub enum FileFault {
     /// No channel has the name.
     NoChannel,
-    /// What is wrong with a record, a line or a frame, whose number counts from 1.
+    /// A record (a line or a frame) is faulty. Numbers start at 1.
     Record { number: usize, fault: RecordFault },
-    /// There are more tokens than this: no channel may hold more.
+    /// There are more than `most` tokens, the limit of a channel.
     TooMany { most: usize },
-    /// Memory was refused.
+    /// Out of memory.
     Memory,
 }
 
-/// Why one of several token files is refused; the number of the file counts from 0.
+/// Why one of several token files is rejected. Files are numbered from 0.
 #[derive(Clone, Copy, Debug, PartialEq, Eq)]
 pub struct PresetFault {
     pub file: usize,
     pub fault: FileFault,
 }
 
-/// Has each channel that a file names hold the tokens of the file at first, one file after the other. The
-/// channel's capacity becomes at least their number.
-///
-/// Errors: the first file that has a fault, see [`FileFault`]. The parts have then what the files before it
-/// say.
+/// Replaces the start tokens of the channels that the files name, one file after the other. A channel's
+/// capacity becomes at least their number. Errors: the first faulty file, see [`FileFault`]. The files before
+/// it have taken effect.
 pub(crate) fn preset<K: Kinds>(
     alloc: Global,
     parts: &mut Parts,
@@ -59,7 +57,6 @@ pub(crate) fn preset<K: Kinds>(
     Ok(())
 }
 
-/// Has the channel that a file names hold the tokens of the file at first.
 fn preset_one<K: Kinds>(alloc: Global, parts: &mut Parts, file: &TokenFile) -> Result<(), FileFault>
     requires { IsValid K.signature (network_of parts.old) }
     ensures valid { IsValid K.signature (network_of parts.new) }
@@ -80,7 +77,6 @@ fn preset_one<K: Kinds>(alloc: Global, parts: &mut Parts, file: &TokenFile) -> R
     }
 }
 
-/// The number of the channel with this name.
 fn find_channel(parts: &Parts, name: &str) -> Option<usize>
     ensures is { result ≡ number_of_channel (network_of parts.now) name.now }
     ensures within { IfSome result (λ c. c < length parts.now.channels.items) }
@@ -88,7 +84,6 @@ fn find_channel(parts: &Parts, name: &str) -> Option<usize>
     parts.channels.iter().position(|c| c.name.as_str() == name)
 }
 
-/// The sort of a channel.
 fn sort_of(parts: &Parts, channel: usize) -> Sort
     requires { channel < length parts.now.channels.items }
     ensures { result ≡ (channel_of (network_of parts.now) channel).sort }
@@ -96,7 +91,7 @@ fn sort_of(parts: &Parts, channel: usize) -> Sort
     parts.channels[channel].sort
 }
 
-/// The tokens of a file, at most so many.
+/// Reads the tokens of a file, at most `most`.
 fn tokens_of(
     alloc: Global,
     layout: Layout,
@@ -118,7 +113,6 @@ fn tokens_of(
     }
 }
 
-/// These tokens, if they are at most so many.
 fn at_most(tokens: Vec<Token>, most: usize) -> Result<Vec<Token>, FileFault>
     ensures ok { IfOk result (λ v. (v.items ≡ tokens.items) × (length v.items ≤ most)) }
     ensures fault { IfErr result (λ e. (e ≡ FileFault.TooMany most) × (most < length tokens.items)) }
@@ -130,7 +124,7 @@ fn at_most(tokens: Vec<Token>, most: usize) -> Result<Vec<Token>, FileFault>
     }
 }
 
-/// Has a channel hold these tokens at first, and room for them.
+/// Sets the start tokens of a channel, and makes room for them.
 fn hold(parts: &mut Parts, channel: usize, tokens: Vec<Token>)
     requires { channel < length parts.old.channels.items }
     ensures { network_of parts.new ≡ with_tokens (network_of parts.old) channel tokens.items }
@@ -141,8 +135,8 @@ fn hold(parts: &mut Parts, channel: usize, tokens: Vec<Token>)
     held.tokens = Listed::new(tokens);
 }
 
-/// Gives a network this budget, in entries of a history. Returns whether it may have it: at least 1, and no
-/// more than [`greatest_budget`]; if not, the network stays as it is.
+/// Sets the budget, in entries, and returns true if it is from 1 to [`greatest_budget`]; else returns false
+/// and changes nothing.
 pub(crate) fn set_budget<K: Kinds>(parts: &mut Parts, budget: u64) -> bool
     requires { IsValid K.signature (network_of parts.old) }
     ensures valid { IsValid K.signature (network_of parts.new) }
@@ -156,7 +150,7 @@ pub(crate) fn set_budget<K: Kinds>(parts: &mut Parts, budget: u64) -> bool
     true
 }
 
-/// Returns the greatest budget of a network whose channels grow up to this capacity.
+/// Returns the greatest budget of a network with this ceiling.
 pub(crate) fn greatest_budget(ceiling: usize) -> u64
     ensures { result ≡ greatest_budget ceiling }
 {

@@ -1,18 +1,17 @@
-//! Reading a file of tokens to its end.
+//! Reads a file of tokens to its end.
 ghost use Rattle.std.specs.Prelude.{◌≡◌, ◌≢◌, ◌<◌, ◌≤◌, ◌+◌, false, true, IsTrue, IfOk, IfSome, length};
 ghost use Rattle.kpn_front.specs.Loading.{ConsumesAtMost};
 
 use kpn_front::Source;
 use std::alloc::Global;
 
-/// How many bytes a file of tokens may have: 64 MiB, which is 67 for each of 1,000,000 tokens.
+/// The maximum length of a file of tokens in bytes: 64 MiB, or 67 bytes for each of 1,000,000 tokens.
 pub const LONGEST_FILE: usize = 67108864;
 
-/// How many bytes one turn reads at most.
+/// How many bytes one read takes at most.
 const CHUNK: usize = 4096;
 
-/// Why a file of tokens was not read: a read failed, or it has more than [`LONGEST_FILE`] bytes, or memory
-/// was refused.
+/// Why reading a file of tokens failed: a read failed; more than [`LONGEST_FILE`] bytes; or out of memory.
 #[derive(Clone, Copy, Debug, PartialEq, Eq)]
 pub enum ReadFault {
     Failed,
@@ -20,9 +19,9 @@ pub enum ReadFault {
     Memory,
 }
 
-/// Returns the bytes of a source, read to its end.
+/// Reads a source to its end.
 ///
-/// Errors: see [`ReadFault`]. What was read has then been consumed from the source.
+/// Errors: see [`ReadFault`]. The bytes read so far are consumed.
 pub fn read_whole<S: Source>(alloc: Global, source: &mut S) -> Result<Vec<u8>, ReadFault>
     ensures ok { IfOk result (λ t. (length t.items ≤ LONGEST_FILE) × IfSome (S.remaining source.old) (λ text. t.items ≡ text)) }
     ensures long { result ≡ Err ReadFault.TooLong → IfSome (S.remaining source.old) (λ text. LONGEST_FILE < length text) }
@@ -47,7 +46,7 @@ pub fn read_whole<S: Source>(alloc: Global, source: &mut S) -> Result<Vec<u8>, R
     Err(ReadFault::TooLong)
 }
 
-/// Whether a text of so many bytes is read on: a file may have as many.
+/// Returns whether `len` is within the limit.
 fn goes_on(len: usize) -> bool
     ensures on { IsTrue result → len ≤ LONGEST_FILE }
     ensures over { result ≡ false → LONGEST_FILE < len }

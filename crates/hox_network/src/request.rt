@@ -1,4 +1,4 @@
-//! What is asked for, and why it is not done.
+//! Requests, and why they fail.
 ghost use Rattle.std.specs.Prelude.{◌≡◌};
 ghost use Rattle.hox_network.specs.Statuses.{status_of_file, status_of_fault};
 
@@ -8,8 +8,8 @@ use kpn_model::{Listed, Text};
 use kpn_sketch::NetFault;
 use kpn_tokens::{Decimals, Layout};
 
-/// The bytes of a file, and how they are laid out as tokens for the channel of this name; and how many there are a
-/// second, if the file tells.
+/// The tokens of a file for the channel of this name: their bytes and layout, and the samples per second if
+/// the file states them.
 #[derive(Drop)]
 pub struct TokenFile {
     pub channel: Text,
@@ -18,17 +18,15 @@ pub struct TokenFile {
     pub rate: Option<u32>,
 }
 
-/// A channel whose stream is wanted, and how its tokens are written.
+/// A channel whose stream is wanted, and the format of its tokens.
 #[derive(Drop)]
 pub struct StreamAs<W> {
     pub channel: Text,
     pub written: W,
 }
 
-/// How a described network is to be run: by 1 to 16 workers; with this budget, in entries of a history, in
-/// place of that of the description; with the tokens of these files in its channels at first; with the streams
-/// of these channels in the report, their words written so; and with the streams of these channels as files of
-/// their own, laid out so.
+/// How to run a described network: with 1 to 16 workers; with this budget, in entries, instead of the description's;
+/// with start tokens from these files; with the streams of `show` in the report, and those of `outputs` as files.
 #[derive(Drop)]
 pub struct Request {
     pub workers: usize,
@@ -38,32 +36,29 @@ pub struct Request {
     pub outputs: Listed<StreamAs<Layout>>,
 }
 
-/// Why a request is not done.
+/// Why a request fails.
 #[derive(Drop)]
 pub enum Fault {
-    /// The description is refused.
+    /// The description is faulty.
     Description(Refused),
-    /// A token file is refused, for another fault than that no channel has its name.
+    /// A token file is faulty, other than by naming no channel.
     Tokens(PresetFault),
-    /// The budget is not 1 to this number.
+    /// The budget is not from 1 to this number.
     Budget(u64),
-    /// No channel has the name that the token file of this number gives, counted from 0; the names of those
-    /// that there are, in order.
+    /// No channel has this token file's name (numbered from 0). The names of all channels follow, in order.
     NoHolder(usize, Listed<Text>),
-    /// No channel has the name of the one to show of this number, counted from 0; the names of those that there
-    /// are, in order.
+    /// No channel has this name to show (numbered from 0). The names of all channels follow, in order.
     NoShown(usize, Listed<Text>),
-    /// No channel has the name of the output of this number, counted from 0; the names of those that there
-    /// are, in order.
+    /// No channel has this output's name (numbered from 0). The names of all channels follow, in order.
     NoOutput(usize, Listed<Text>),
-    /// Memory was refused.
+    /// Out of memory.
     Memory,
-    /// The machine refused an answer of one of several workers.
+    /// The machine rejected an answer of one of several workers.
     Lost,
 }
 
-/// Why nothing is told of a run: memory was refused, before the run or for what is told; or the machine
-/// refused an answer of one of several workers.
+/// Why a run has no result: out of memory, before the run or while writing its report; or the machine
+/// rejected an answer of one of several workers.
 #[derive(Clone, Copy, Debug, PartialEq, Eq)]
 pub enum RunFault {
     Memory,
@@ -71,7 +66,7 @@ pub enum RunFault {
 }
 
 impl Fault {
-    /// Returns the exit status of a program that meets the fault.
+    /// Returns the program's exit status.
     pub fn status(&self) -> Status
         ensures { result ≡ status_of_fault self.now }
     {
@@ -90,7 +85,6 @@ impl Fault {
     }
 }
 
-/// The exit status of a program that meets a fault of a token file.
 fn status_of_file(fault: FileFault) -> Status
     ensures { result ≡ status_of_file fault }
 {

@@ -1,4 +1,4 @@
-//! Arguments and start tokens below 0.
+//! Negative arguments and start tokens.
 ghost use Rattle.std.specs.Prelude.{◌≡◌, [], IfOk, map};
 ghost use Rattle.hox_network.specs.Signs.{carried, count_below, is_below, signed_args, signed_channel, signed_kind, signed_process, signed_token, with_signs};
 
@@ -7,8 +7,7 @@ use kpn_net::faults::has_wrong_args;
 use kpn_net::{ChannelSketch, ProcessSketch, Sketch, TokenSketch};
 use std::alloc::{AllocError, Global};
 
-/// The sketch, whose processes with arguments below 0 are of the kinds that take them, and whose start tokens
-/// below 0 are words.
+/// Gives processes with negative arguments the signed kinds, and turns negative start tokens into words.
 pub(crate) fn with_signs<K: Kinds>(alloc: Global, sketch: Sketch) -> Result<Sketch, AllocError>
     ensures { IfOk result (λ r. r ≡ with_signs K.named K.signature sketch) }
 {
@@ -30,7 +29,6 @@ pub(crate) fn with_signs<K: Kinds>(alloc: Global, sketch: Sketch) -> Result<Sket
     })
 }
 
-/// The processes, of which those with arguments below 0 are of the kinds that take them.
 fn signed_processes<K: Kinds>(
     alloc: Global,
     processes: Vec<ProcessSketch>,
@@ -44,7 +42,7 @@ fn signed_processes<K: Kinds>(
     Ok(all)
 }
 
-/// A process, of the kind that takes arguments below 0 if it has some and there is such a kind.
+/// Gives a process the signed kind if its first argument is negative and that kind takes the arguments.
 fn signed_process<K: Kinds>(
     alloc: Global,
     process: ProcessSketch,
@@ -64,7 +62,6 @@ fn signed_process<K: Kinds>(
     })
 }
 
-/// A process without a name, of the kind that takes arguments below 0, with those of this process.
 fn signed_form(alloc: Global, process: &ProcessSketch) -> Result<ProcessSketch, AllocError>
     ensures { IfOk result (λ r. r ≡ record { name = []; kind = signed_kind process.now.kind; args = signed_args process.now.args }) }
 {
@@ -75,7 +72,6 @@ fn signed_form(alloc: Global, process: &ProcessSketch) -> Result<ProcessSketch, 
     })
 }
 
-/// The name of the kind that takes arguments below 0.
 fn signed_kind(alloc: Global, kind: &str) -> Result<Text, AllocError>
     ensures { IfOk result (λ name. name ≡ signed_kind kind.now) }
 {
@@ -84,14 +80,14 @@ fn signed_kind(alloc: Global, kind: &str) -> Result<Text, AllocError>
     Ok(Text::new(name))
 }
 
-/// Whether this argument is there, and below 0.
+/// Returns whether argument `k` exists and is negative.
 fn is_below(args: &[i64], k: usize) -> bool
     ensures { result ≡ is_below args.now k }
 {
     args.get(k).copied().unwrap_or(0) < 0
 }
 
-/// How the kind that takes arguments below 0 is given an argument.
+/// Returns an argument as a signed kind takes it.
 fn carried(argument: i64) -> i64
     ensures { result ≡ carried argument }
 {
@@ -102,7 +98,6 @@ fn carried(argument: i64) -> i64
     }
 }
 
-/// The arguments of the kind that takes some below 0, as these are.
 fn signed_args(alloc: Global, args: &[i64]) -> Result<Vec<i64>, AllocError>
     ensures { IfOk result (λ v. v.items ≡ signed_args args.now) }
 {
@@ -111,14 +106,13 @@ fn signed_args(alloc: Global, args: &[i64]) -> Result<Vec<i64>, AllocError>
     Ok(signed)
 }
 
-/// How many of the first two arguments are below 0, where the first is.
+/// Returns how many of the first two arguments are negative, if the first is.
 fn count_below(args: &[i64]) -> i64
     ensures { result ≡ count_below args.now }
 {
     if is_below(args, 1) { 2 } else { 1 }
 }
 
-/// The arguments, each as the kind that takes some below 0 is given it.
 fn carried_args(alloc: Global, args: &[i64]) -> Result<Vec<i64>, AllocError>
     ensures { IfOk result (λ v. v.items ≡ map carried args.now) }
 {
@@ -129,7 +123,6 @@ fn carried_args(alloc: Global, args: &[i64]) -> Result<Vec<i64>, AllocError>
     Ok(all)
 }
 
-/// The channels, whose start tokens below 0 are words.
 fn signed_channels(
     alloc: Global,
     channels: Vec<ChannelSketch>,
@@ -143,7 +136,6 @@ fn signed_channels(
     Ok(all)
 }
 
-/// A channel, whose start tokens below 0 are words.
 fn signed_channel(alloc: Global, channel: ChannelSketch) -> Result<ChannelSketch, AllocError>
     ensures { IfOk result (λ r. r ≡ signed_channel channel) }
 {
@@ -154,7 +146,6 @@ fn signed_channel(alloc: Global, channel: ChannelSketch) -> Result<ChannelSketch
     })
 }
 
-/// The start tokens, of which those below 0 are words.
 fn signed_tokens(alloc: Global, tokens: &[TokenSketch]) -> Result<Vec<TokenSketch>, AllocError>
     ensures { IfOk result (λ v. v.items ≡ map signed_token tokens.now) }
 {
@@ -165,7 +156,7 @@ fn signed_tokens(alloc: Global, tokens: &[TokenSketch]) -> Result<Vec<TokenSketc
     Ok(all)
 }
 
-/// A start token; one below 0 is the word that stands for it in two's complement.
+/// Turns a negative start token into a word in two's complement.
 fn signed_token(token: TokenSketch) -> TokenSketch
     ensures { result ≡ signed_token token }
 {

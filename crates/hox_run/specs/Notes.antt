@@ -32,17 +32,16 @@ abbrev pub is_place_of_stopped : Option Place → Bool
 is_place_of_stopped (Some Stopped) = true
 is_place_of_stopped _ = false
 
--- the budget of a run that spent it
 abbrev pub spent : Network → End → Option ℕ
 spent net Budget = Some net.budget
 spent net _ = None
 
 module _ (net : Network) (E : List Entry) where
-  -- the writer of channel c was left stopped, and put nothing on it
+  -- the writer of channel c stopped without a put on it
   abbrev pub is_source : (ℕ → Option Place) → ℕ → Bool
   is_source left c = is_place_of_stopped (left (channel_of net c).writer) && not (has_put E c)
 
-  -- how many tokens a source held at first, and how many of these were not read
+  -- how many start tokens a source had, and how many of these were not read
   abbrev pub source_of : ℕ → SourceNote
   source_of c = record { channel = channel_name net c; tokens = length (channel_of net c).tokens; unread = length (channel_of net c).tokens - taken_count E c }
 
@@ -51,7 +50,7 @@ module _ (net : Network) (E : List Entry) where
   sources_upto left zero = []
   sources_upto left (suc n) = sources_upto left n ++ (if is_source left n then source_of n ∷ [] else [])
 
--- what is to be said of a run that ended so and left its processes so
+-- what a run with this end left unused
 pub record AreNotes (net : Network) (cause : End) (E : List Entry) (left : ℕ → Option Place) (notes : Notes) : Type 0 where
   pub sources : notes.sources.items ≡ sources_upto net E left (length net.channels)
   pub budget : notes.budget ≡ spent net cause

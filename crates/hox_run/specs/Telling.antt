@@ -1,4 +1,4 @@
--- What is told of a run.
+-- The result of a run.
 use Rattle.std.specs.Prelude.{◌≡◌, ℕ, Bool, true, false, if◌then◌else◌, List, [], ◌++◌, is_some, length, map, not, take, unwrap_or, Option, None, string_bytes}
 use Rattle.std.specs.List.{list_any, position}
 use Rattle.kpn_model.specs.declared.token.Token.{Token}
@@ -30,7 +30,6 @@ use Rattle.hox_run.specs.declared.telling.Told.{Told}
 use Rattle.hox_run.specs.Cuts.{Leaves, before_verdict, cut_text}
 use Rattle.hox_run.specs.Notes.{AreNotes}
 
--- the exit status of a run with this verdict
 abbrev pub status_of_verdict : Verdict → Status
 status_of_verdict Finished = Success
 status_of_verdict RanDry = Success
@@ -39,15 +38,15 @@ status_of_verdict Cut = BudgetSpent
 status_of_verdict Full = AtCeiling
 status_of_verdict Memory = MemoryRefused
 
--- the place of the first of some tokens that does not fit the layout, unless such ones are clipped
+-- the place of the first token that does not fit and is not clipped
 abbrev pub first_misfit : Layout → List Token → Option ℕ
 first_misfit layout tokens = if clips layout then None else position (λ token. not (fits layout token)) tokens
 
--- those before it, or all
+-- the tokens before it, or all
 abbrev pub fitting : Layout → List Token → List Token
 fitting layout tokens = take (unwrap_or (first_misfit layout tokens) (length tokens)) tokens
 
--- what goes of tokens into a file: those up to the first that does not fit, and how many of them are clipped
+-- a file of tokens: those up to the first that does not fit, and how many of them are clipped
 abbrev pub fitted : Layout → List Token → StreamFile
 fitted layout tokens =
     record {
@@ -56,11 +55,11 @@ fitted layout tokens =
       is_misfit = is_some (first_misfit layout tokens);
     }
 
--- what goes of what went through a channel, its start tokens first
+-- a file of a channel's stream, its start tokens first
 abbrev pub stream_file : Network → List Entry → ChannelAs Layout → StreamFile
 stream_file net E c = fitted c.written (stream net E c.channel)
 
--- the exit status of a run with this verdict, unless a token does not fit a file
+-- the exit status for a verdict, unless a token does not fit a file
 abbrev pub status_with : Verdict → List StreamFile → Status
 status_with verdict files = if list_any (λ (f : StreamFile). f.is_misfit) files then Refused else status_of_verdict verdict
 
@@ -69,13 +68,13 @@ module _ (kinds : Family) (net : Network) where
   abbrev pub places_in : State → List Place
   places_in M = each_process net (λ p. place_of net p (wants kinds net M p))
 
-  -- this follows the verdict: of a run that was cut, how it left each process, and the streams so far of the channels to show
+  -- what follows the verdict: if the run was cut, where it left each process, and the streams to show so far
   abbrev pub Follows : List (ChannelAs Decimals) → End → List Entry → State → List ℕ → Type 0
   Follows show Budget E M text = (left : ℕ → Option Place) × Leaves kinds net M left × (text ≡ cut_text net E left show)
   Follows show cause E M text = text ≡ []
 
   module _ (show : List (ChannelAs Decimals)) (outputs : List (ChannelAs Layout)) (told : Told) where
-    -- it is told of the run E to M, which ended for this cause, with this verdict on it
+    -- this result is that of the run E to M, with this end and verdict
     pub record TellsOf (cause : End) (E : List Entry) (M : State) (verdict : Verdict) : Type 0 where
       pub judged : IsVerdict net (places_in M) cause verdict
       pub status_is : told.status ≡ status_with verdict told.outputs.items
@@ -84,10 +83,9 @@ module _ (kinds : Family) (net : Network) where
       pub report_is : string_bytes told.report ≡ report_text kinds net cause E M None ++ before_verdict net cause E show ++ verdict_line net (places_in M) verdict ++ after
       pub outputs_are : told.outputs.items ≡ map (stream_file net E) outputs
 
-    -- a run from the start ended for a cause that justifies its end; it took no more room than the network needs, its streams
-    -- approach the least solution of the network's equations, and they and those of any other run are prefix-comparable; it is told
-    -- of this run, and if it came to its own end, the same is told of each run that is over, whatever the schedule; and what it left
-    -- unused is noted
+    -- a run from the start ended for a justified cause. It took no more room than needed; its streams
+    -- approach the least solution and are prefix-comparable with those of any other run. The result is that
+    -- of this run; if it ended by itself, it is also that of each run that is over, whatever the schedule
     pub record TellsRun : Type 0 where
       pub history : List Entry
       pub state : State

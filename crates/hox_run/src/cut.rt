@@ -1,4 +1,4 @@
-//! What is told of a run that was cut: where it left each process, and the streams so far.
+//! Reports on a run that was cut: where it left each process, and the streams so far.
 ghost use Rattle.std.specs.Prelude.{◌≡◌, ◌++◌, ◌<◌, OnOk, length, string_bytes};
 ghost use Rattle.kpn_model.specs.NamesAndLines.{lines_upto};
 ghost use Rattle.hox_run.specs.Cuts.{after_verdict, left_at, left_line, left_text};
@@ -14,11 +14,9 @@ use kpn_tokens::Decimals;
 use std::alloc::{AllocError, Global};
 use std::fmt::Write;
 
-/// Appends what follows the verdict on a run with this end. If it was cut, this is a line for each process,
-/// which says whether it was ready, has stopped, or for which channel it waits; and for each channel of `show` a
-/// line `prefix` with what went through it so far. Else it is nothing.
-///
-/// Errors: memory was refused.
+/// Appends what follows the verdict on a run that was cut, else nothing: for each process, whether it was
+/// ready, has stopped, or for which channel it waits; for each channel of `show` a line `prefix` with its
+/// stream so far. Errors: out of memory.
 pub(crate) fn push_after_verdict<K: Kinds, E: Entries>(
     alloc: Global,
     out: &mut String,
@@ -36,7 +34,6 @@ pub(crate) fn push_after_verdict<K: Kinds, E: Entries>(
     }
 }
 
-/// Appends the line of each process.
 fn push_left<K: Kinds>(
     out: &mut String,
     net: &Net<K>,
@@ -51,7 +48,7 @@ fn push_left<K: Kinds>(
     Ok(())
 }
 
-/// What is known of a process: its place, unless it was ready.
+/// Returns the place of a process, unless it was ready.
 pub(crate) fn left_at(standings: &[Standing], places: &[Place], process: usize) -> Option<Place>
     ensures { result ≡ left_at standings.now places.now process }
 {
@@ -61,7 +58,6 @@ pub(crate) fn left_at(standings: &[Standing], places: &[Place], process: usize) 
     }
 }
 
-/// Appends the line of a process that was left so.
 fn push_left_line<K: Kinds>(
     out: &mut String,
     net: &Net<K>,
@@ -77,7 +73,6 @@ fn push_left_line<K: Kinds>(
     out.push_str("\n")
 }
 
-/// Appends how a process was left.
 fn push_left_text<K: Kinds>(
     out: &mut String,
     net: &Net<K>,

@@ -11,8 +11,8 @@ use kpn_report::{Entries, stream_of_entries};
 use kpn_tokens::{Layout, count_misfits};
 use std::alloc::{AllocError, Global};
 
-/// What goes into a file of a stream: its tokens, up to the first that does not fit; for how many of them the nearest
-/// is written that fits; and whether one does not fit.
+/// A stream as a file: its tokens, up to the first that does not fit; how many of them are clipped to the
+/// nearest value that fits; and whether one does not fit.
 #[derive(Drop)]
 pub struct StreamFile {
     pub tokens: Listed<Token>,
@@ -20,9 +20,8 @@ pub struct StreamFile {
     pub is_misfit: bool,
 }
 
-/// The streams of these channels, each as far as it goes into its file.
-///
-/// Errors: memory was refused.
+/// Returns the streams of these channels, each up to the first token that does not fit its file. Errors: out
+/// of memory.
 pub(crate) fn stream_files<K: Kinds, E: Entries>(
     alloc: Global,
     net: &Net<K>,
@@ -39,7 +38,6 @@ pub(crate) fn stream_files<K: Kinds, E: Entries>(
     Ok(files)
 }
 
-/// The stream of a channel, as far as it goes into its file.
 fn stream_file<K: Kinds, E: Entries>(
     alloc: Global,
     net: &Net<K>,
@@ -53,7 +51,7 @@ fn stream_file<K: Kinds, E: Entries>(
     Ok(fitted(channel.written, tokens))
 }
 
-/// Tokens up to the first that does not fit.
+/// Cuts tokens off from the first that does not fit.
 fn fitted(layout: Layout, mut tokens: Vec<Token>) -> StreamFile
     ensures { result ≡ fitted layout tokens.items }
 {

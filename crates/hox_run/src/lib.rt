@@ -1,5 +1,4 @@
-//! Runs a described network on tokens of files, and tells what went through its channels, from bytes to
-//! bytes.
+//! Runs a described network on tokens from files, and reports its streams.
 #![tactic(auto)]
 
 mod cut;

@@ -14,8 +14,7 @@ use kpn_report::Entries;
 use kpn_state::Standing;
 use std::alloc::{AllocError, Global};
 
-/// A channel whose writer has stopped and put nothing on it: how many tokens the channel held at first, and how
-/// many of these were not read.
+/// A channel whose writer stopped without a put: how many start tokens it had, and how many of them were not read.
 #[derive(Drop)]
 pub struct SourceNote {
     pub channel: Text,
@@ -23,17 +22,14 @@ pub struct SourceNote {
     pub unread: usize,
 }
 
-/// What a run left unused: what is to be said of its sources, in the order of the channels, and its budget if that
-/// was spent.
+/// What a run left unused: its sources, in the order of channels; and its budget, if that was spent.
 #[derive(Drop)]
 pub struct Notes {
     pub sources: Vec<SourceNote>,
     pub budget: Option<u64>,
 }
 
-/// Returns what a run with this history and this end left unused, which left its processes so.
-///
-/// Errors: memory was refused.
+/// Returns what a run left unused. Errors: out of memory.
 pub(crate) fn notes_of<K: Kinds, E: Entries>(
     alloc: Global,
     run: &Ended<'_, K, E>,
@@ -52,7 +48,6 @@ pub(crate) fn notes_of<K: Kinds, E: Entries>(
     })
 }
 
-/// The budget, if it was spent.
 fn spent<K: Kinds>(net: &Net<K>, end: End) -> Option<u64>
     ensures { result ≡ spent net.now end }
 {
@@ -62,7 +57,7 @@ fn spent<K: Kinds>(net: &Net<K>, end: End) -> Option<u64>
     }
 }
 
-/// Whether the writer of a channel has stopped, and put nothing on it.
+/// Returns whether the writer of a channel stopped without a put on it.
 fn is_source<K: Kinds, E: Entries>(run: &Ended<'_, K, E>, c: usize) -> bool
     requires { c < length run.now.net.now.channels }
     ensures { result ≡ is_source run.now.net.now (E.entries run.now.history.now) (left_at run.now.standings.now run.now.places.now) c }
@@ -71,14 +66,12 @@ fn is_source<K: Kinds, E: Entries>(run: &Ended<'_, K, E>, c: usize) -> bool
     is_stopped(left) && !has_put(run.history, c)
 }
 
-/// Whether a process was left stopped.
 fn is_stopped(left: Option<Place>) -> bool
     ensures { result ≡ is_place_of_stopped left }
 {
     matches!(left, Some(Place::Stopped))
 }
 
-/// Whether a token was put on a channel.
 fn has_put<E: Entries>(history: &E, c: usize) -> bool
     ensures { result ≡ has_put (E.entries history.now) c }
 {
@@ -91,7 +84,6 @@ fn has_put<E: Entries>(history: &E, c: usize) -> bool
     false
 }
 
-/// Whether an entry is a put on a channel.
 fn is_put_on(entry: &Entry, c: usize) -> bool
     ensures { result ≡ is_put_on c entry.now }
 {
@@ -104,7 +96,6 @@ fn is_put_on(entry: &Entry, c: usize) -> bool
     }
 }
 
-/// Whether an entry takes a token from a channel.
 fn is_taken_from(entry: &Entry, c: usize) -> bool
     ensures { result ≡ is_taken_from c entry.now }
 {
@@ -117,7 +108,6 @@ fn is_taken_from(entry: &Entry, c: usize) -> bool
     }
 }
 
-/// How many tokens were taken from a channel.
 fn taken_count<E: Entries>(history: &E, c: usize) -> usize
     ensures { result ≡ taken_count (E.entries history.now) c }
 {
@@ -131,7 +121,6 @@ fn taken_count<E: Entries>(history: &E, c: usize) -> usize
     taken
 }
 
-/// What is to be said of a source.
 fn source_of<K: Kinds, E: Entries>(
     alloc: Global,
     net: &Net<K>,

@@ -1,4 +1,4 @@
-//! Telling how far a run has come.
+//! Shows the progress of a run.
 ghost use Rattle.std.specs.Prelude.{◌≡◌, Some, length};
 ghost use Rattle.std.specs.List.{count_by};
 ghost use Rattle.kpn_model.specs.History.{growths};
@@ -9,8 +9,8 @@ use kpn_machine::Machine;
 use kpn_observe::{Observer, Phase, Progress as Watched, Wish};
 use kpn_state::Keeper;
 
-/// How far a run has come: how many entries its history has, how many of them are growths, and how many
-/// processes are ready, which is known where one worker asks them all.
+/// The progress of a run: how many entries its history has, how many of them are growths, and how many
+/// processes are ready, which is known only with one worker.
 #[derive(Clone, Copy, Debug, PartialEq, Eq)]
 pub struct SoFar {
     pub entries: u64,
@@ -18,7 +18,7 @@ pub struct SoFar {
     pub ready: Option<usize>,
 }
 
-/// Who is told how far a run has come while it goes on. What is told of the run in the end doesn't depend on it.
+/// Receives the progress of a run. The result of the run doesn't depend on it.
 ///
 /// ```text
 /// impl<'a, R: Clock + Eprint + Sync> Progress for ProgressLine<'a, R> {
@@ -32,18 +32,18 @@ pub struct SoFar {
 /// }
 /// ```
 pub trait Progress: Sync {
-    /// Whether anything is to be told. If not, nobody looks on while several workers run.
+    /// Returns whether progress is wanted at all. If not, no thread watches several workers.
     fn is_wanted(&self) -> bool;
 
-    /// Whether it is time to tell something. One worker asks this after some hundred thousand answers, and
-    /// several by a thread of its own, a few times a second.
+    /// Returns whether progress is due. One worker asks this after some hundred thousand answers; with
+    /// several, a thread of its own asks it a few times a second.
     fn is_due(&self) -> bool;
 
-    /// Called while the run goes on, where it is time.
+    /// Receives the progress when it is due.
     fn tell(&self, so_far: SoFar);
 }
 
-/// The one that is told nothing.
+/// A receiver that ignores the progress.
 pub struct Silent;
 
 impl Progress for Silent {
@@ -58,14 +58,13 @@ impl Progress for Silent {
     fn tell(&self, _so_far: SoFar) {}
 }
 
-/// Tells how far a machine has come, if it is time.
+/// Shows the progress of a machine if it is due.
 pub(crate) fn tell_of<B: Body, H: Keeper, P: Progress>(machine: &Machine<B, H>, progress: &P) {
     if progress.is_due() {
         progress.tell(so_far(machine));
     }
 }
 
-/// How far a machine has come.
 fn so_far<B: Body, H: Keeper>(machine: &Machine<B, H>) -> SoFar
     ensures entries { result.entries ≡ length machine.now.history }
     ensures growths { result.growths ≡ length (growths machine.now.history) }
@@ -78,7 +77,7 @@ fn so_far<B: Body, H: Keeper>(machine: &Machine<B, H>) -> SoFar
     }
 }
 
-/// Looks at the board of a run by several workers, and never wishes to stop.
+/// Watches the board of a run with several workers, and never stops the run.
 #[derive(Drop)]
 pub(crate) struct OnBoard<'a, P> {
     pub(crate) progress: &'a P,

@@ -1,4 +1,4 @@
-//! Running a network.
+//! Runs a network.
 ghost use Rattle.std.specs.Prelude.{◌≡◌, ◌≢◌, ◌+◌, ◌<◌, ◌≤◌, ℕ, IfOk, IsSome, None, Err, length, map};
 ghost use Rattle.std.specs.List.{All};
 ghost use Rattle.kpn_model.specs.Families.{family};
@@ -25,19 +25,18 @@ use std::sync::Wait;
 use std::thread::Threads;
 use std::time::Duration;
 
-/// After so many answers one worker asks whether it is time to tell how far the run has come.
+/// After how many answers one worker asks whether progress is due.
 const PIECE: u64 = 100_000;
 
-/// So many milliseconds go by between two looks at several workers.
+/// The milliseconds between two looks at several workers.
 const PERIOD: u64 = 100;
 
-/// Runs a network by 1 to 16 workers, and returns what is told of the run: its exit status, its report with
-/// the verdict on it and the streams that are wanted of it. A single worker is the calling thread.
+/// Runs a network with 1 to 16 workers, and returns its exit status, its report with the verdict, and the
+/// wanted streams. A single worker is the calling thread. `progress` receives the progress of the run.
 ///
-/// If the run came to its own end, the same is told of each run of the network that is over, whatever the
-/// schedule and the number of workers (Kahn 1974). A run that was cut by its budget gives the streams as far as
-/// it came: what any other run puts on a channel begins with them, or they with it. While it runs, `progress` is
-/// told how far it has come.
+/// If the run ends by itself, every run of the network that is over gives the same result, whatever the
+/// schedule and the number of workers (Kahn 1974). If the budget cuts the run, each of its streams is a
+/// prefix of any other run's, or the reverse.
 ///
 /// Errors: see [`RunFault`].
 pub fn execute<K: Computes, R: Wait + Clock + Threads + Sync, P: Progress>(
@@ -65,7 +64,6 @@ pub fn execute<K: Computes, R: Wait + Clock + Threads + Sync, P: Progress>(
     }
 }
 
-/// Runs a network in the calling thread, with a body for each process, and returns what is told of the run.
 fn execute_alone<K: Computes, P: Progress>(
     alloc: Global,
     net: Net<K>,
@@ -97,7 +95,7 @@ fn finish<B: Body, H: Keeper, P: Progress>(machine: &mut Machine<B, H>, progress
     }
 }
 
-/// Goes on with a run that has not ended, by some answers.
+/// Continues a run by some answers.
 fn go_on<B: Body, H: Keeper>(machine: &mut Machine<B, H>)
     requires on { machine.old.end ≡ None }
     requires none_out { (p : ℕ) → standing machine.old.standings p ≢ Out }
@@ -110,7 +108,6 @@ fn go_on<B: Body, H: Keeper>(machine: &mut Machine<B, H>)
     machine.ask_in_place(PIECE);
 }
 
-/// Runs a network by several workers, and returns what is told of the run.
 fn execute_by_workers<K: Computes, R: Wait + Clock + Threads + Sync>(
     rt: &R,
     alloc: Global,
@@ -138,8 +135,7 @@ fn execute_by_workers<K: Computes, R: Wait + Clock + Threads + Sync>(
     }
 }
 
-/// Runs a network by several workers, beside a thread that is told how far they have come, and returns what is told of
-/// the run.
+/// Runs a network with several workers and a thread that shows their progress.
 fn execute_watched<K: Computes, R: Wait + Clock + Threads + Sync, P: Progress>(
     rt: &R,
     alloc: Global,
@@ -168,8 +164,8 @@ fn execute_watched<K: Computes, R: Wait + Clock + Threads + Sync, P: Progress>(
     }
 }
 
-/// What is told of a run that was watched. If it has no end, it is lost: the observer never wishes to stop, but no
-/// contract says that a run has an end then.
+/// Returns the result of a watched run. A run without an end is lost: the observer never stops the run, but
+/// no contract says that it then has an end.
 fn told_of_watched<K: Computes>(
     alloc: Global,
     ran: &WatchedRun<K, Packed>,

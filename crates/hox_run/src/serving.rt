@@ -1,4 +1,4 @@
-//! Running a described network as it is asked for, from bytes to bytes.
+//! Runs a described network as requested.
 ghost use Rattle.std.specs.Prelude.{◌≡◌, ◌<◌, ◌+◌, ◌⊎◌, ℕ, IfOk, IfErr, IfNone, IfSome, MatchResult, None, length};
 ghost use Rattle.std.specs.List.{All};
 ghost use Rattle.kpn_model.specs.Network.{number_of_channel, Network as NetworkV};
@@ -23,9 +23,9 @@ use std::rt::Clock;
 use std::sync::Wait;
 use std::thread::Threads;
 
-/// Reads a description from the source, gives its channels the tokens of the request's files and its
-/// network the request's budget, and runs it. Returns what is told of the run. A channel has the sort of its two
-/// ports, so that the description need not say it. While it runs, `progress` is told how far it has come.
+/// Reads a description, sets the start tokens of the request's files and the request's budget, and runs the
+/// network. Returns the result. A channel gets the sort of its two ports, so the description may omit it.
+/// `progress` receives the progress of the run.
 ///
 /// Errors: see [`Fault`].
 pub fn serve<K: Computes, I: Source, R: Wait + Clock + Threads + Sync, P: Progress>(
@@ -46,7 +46,6 @@ pub fn serve<K: Computes, I: Source, R: Wait + Clock + Threads + Sync, P: Progre
     }
 }
 
-/// Runs a network that was prepared, as the request wants it.
 fn serve_prepared<K: Computes, R: Wait + Clock + Threads + Sync, P: Progress>(
     rt: &R,
     alloc: Global,
@@ -70,7 +69,6 @@ fn serve_prepared<K: Computes, R: Wait + Clock + Threads + Sync, P: Progress>(
     }
 }
 
-/// The channels to show.
 fn shown_in<K: Kinds>(
     alloc: Global,
     net: &Net<K>,
@@ -86,7 +84,6 @@ fn shown_in<K: Kinds>(
     }
 }
 
-/// The channels whose streams are wanted as files of their own.
 fn outputs_in<K: Kinds>(
     alloc: Global,
     net: &Net<K>,
@@ -103,14 +100,13 @@ fn outputs_in<K: Kinds>(
     }
 }
 
-/// Why names are not those of channels: no channel has the name at this place, or memory was refused.
+/// Why names are not those of channels: no channel has the name at this place; or out of memory.
 #[derive(Clone, Copy)]
 enum Missing {
     Channel(usize),
     Memory,
 }
 
-/// The channels of these names.
 fn channels_in<K: Kinds, W: Copy + Drop>(
     alloc: Global,
     net: &Net<K>,
@@ -132,7 +128,6 @@ fn channels_in<K: Kinds, W: Copy + Drop>(
     Ok(channels)
 }
 
-/// The channel of a name, with how its tokens are written.
 fn channel_of<K: Kinds, W: Copy>(net: &Net<K>, text: &StreamAs<W>) -> Option<ChannelAs<W>>
     ensures named { IfSome result (IsNamed net.now text.now) }
     ensures within { IfSome result (IsWithin net.now) }
@@ -145,7 +140,6 @@ fn channel_of<K: Kinds, W: Copy>(net: &Net<K>, text: &StreamAs<W>) -> Option<Cha
     })
 }
 
-/// The names of a network's channels, for a fault.
 fn names_in<K: Kinds>(alloc: Global, net: &Net<K>) -> Result<Listed<Text>, Fault>
     ensures { MatchResult result (λ names. names ≡ channel_names net.now) (λ e. e ≡ Fault.Memory) }
 {

@@ -13,23 +13,21 @@ use kpn_tokens::{Decimals, Layout, append_token};
 use std::alloc::{AllocError, Global};
 use std::str;
 
-/// A channel whose stream is wanted, and how its tokens are written.
+/// A channel whose stream is wanted, and the format of its tokens.
 #[derive(Clone, Copy, Debug, PartialEq, Eq)]
 pub struct ChannelAs<W> {
     pub channel: usize,
     pub written: W,
 }
 
-/// What is wanted of a run: the channels whose streams the report shows, and those whose streams become files.
+/// The wanted streams of a run: those in the report, and those written to files.
 #[derive(Clone, Copy)]
 pub struct Wanted<'a> {
     pub show: &'a [ChannelAs<Decimals>],
     pub outputs: &'a [ChannelAs<Layout>],
 }
 
-/// Appends, of a run with this end that has a report, a line `stream` for each channel of `show`.
-///
-/// Errors: memory was refused.
+/// Appends a line `stream` for each channel of `show`, if the run has a report. Errors: out of memory.
 pub(crate) fn push_before_verdict<K: Kinds, E: Entries>(
     alloc: Global,
     out: &mut String,
@@ -46,9 +44,7 @@ pub(crate) fn push_before_verdict<K: Kinds, E: Entries>(
     }
 }
 
-/// Appends a line for the stream of each of these channels, which begins with this word.
-///
-/// Errors: memory was refused.
+/// Appends a line for the stream of each channel, beginning with `word`. Errors: out of memory.
 pub(crate) fn push_streams<K: Kinds, E: Entries>(
     alloc: Global,
     out: &mut String,
@@ -64,7 +60,6 @@ pub(crate) fn push_streams<K: Kinds, E: Entries>(
     Ok(())
 }
 
-/// Appends the line of a channel's stream.
 fn push_stream<K: Kinds, E: Entries>(
     alloc: Global,
     out: &mut String,
@@ -78,7 +73,6 @@ fn push_stream<K: Kinds, E: Entries>(
     push_line(alloc, out, run.net, tokens.as_slice(), channel, word)
 }
 
-/// Appends a line with these tokens of a channel.
 fn push_line<K: Kinds>(
     alloc: Global,
     out: &mut String,
@@ -95,7 +89,6 @@ fn push_line<K: Kinds>(
     out.push_str("\n")
 }
 
-/// Appends some tokens, each after a space.
 fn push_tokens(
     alloc: Global,
     out: &mut String,
@@ -111,7 +104,6 @@ fn push_tokens(
     push_bytes(out, bytes.as_slice())
 }
 
-/// Appends a space and a token.
 fn append_part(out: &mut Vec<u8>, decimals: Decimals, token: Token) -> Result<(), AllocError>
     ensures { OnOk result (out.new.items ≡ out.old.items ++ token_part decimals token) }
 {

@@ -1,4 +1,4 @@
-//! What is told of a run that ended.
+//! The result of a run that ended.
 ghost use Rattle.std.specs.Prelude.{◌≡◌, ◌<◌, ◌++◌, ℕ, true, None, IfOk, IsSome, OnOk, string_bytes};
 ghost use Rattle.std.specs.List.{All, list_any};
 ghost use Rattle.kpn_model.specs.Network.{Family};
@@ -27,9 +27,8 @@ use kpn_tokens::Decimals;
 use kpn_verdict::{verdict_of, verdict_text};
 use std::alloc::{AllocError, Global};
 
-/// What is told of a run: the exit status, the report with the line of the verdict, and for each channel
-/// that was asked for its stream as a file; and what the run left unused. The report on a run that was cut
-/// says too where it left each process, and what went so far through the channels to show.
+/// The result of a run: its exit status, its report with the verdict, the files of the wanted streams, and what it
+/// left unused. The report on a run that was cut also has where it left each process, and the streams to show so far.
 #[derive(Drop)]
 pub struct Told {
     pub status: Status,
@@ -38,17 +37,13 @@ pub struct Told {
     pub notes: Notes,
 }
 
-/// A verdict, and the report with its line.
 #[derive(Drop)]
 struct Judged {
     verdict: Verdict,
     report: String,
 }
 
-/// Returns what is told of a run that ended and whose entries are these, with the streams of the channels that are
-/// wanted.
-///
-/// Errors: memory was refused.
+/// Returns the result of a run that ended, with these entries and the wanted streams. Errors: out of memory.
 pub(crate) fn told_of<K: Kinds, H: Keeper, E: Entries>(
     alloc: Global,
     chronicle: &Chronicle<K, H>,
@@ -86,7 +81,6 @@ pub(crate) fn told_of<K: Kinds, H: Keeper, E: Entries>(
     })
 }
 
-/// The report of a run, and the verdict on it.
 fn judge<K: Kinds, E: Entries>(
     alloc: Global,
     run: &Ended<'_, K, E>,
@@ -101,7 +95,7 @@ fn judge<K: Kinds, E: Entries>(
     Ok(Judged { verdict, report })
 }
 
-/// Appends the streams of channels, the line of a verdict, and what follows it.
+/// Appends the streams, the line of the verdict, and what follows it.
 fn push_judged<K: Kinds, E: Entries>(
     alloc: Global,
     out: &mut String,
@@ -116,7 +110,6 @@ fn push_judged<K: Kinds, E: Entries>(
     push_after_verdict(alloc, out, run, show)
 }
 
-/// Appends the line of a verdict.
 fn push_line<K: Kinds>(
     alloc: Global,
     out: &mut String,
@@ -130,7 +123,7 @@ fn push_line<K: Kinds>(
     out.push_str(line.as_str())
 }
 
-/// The exit status of a run with this verdict, unless a token does not fit one of these files.
+/// Returns the exit status for a verdict, unless a token does not fit one of the files.
 fn status_with(verdict: Verdict, files: &[StreamFile]) -> Status
     ensures { result ≡ status_with verdict files.now }
 {
@@ -141,14 +134,12 @@ fn status_with(verdict: Verdict, files: &[StreamFile]) -> Status
     }
 }
 
-/// Whether a token does not fit one of these files.
 fn has_misfit(files: &[StreamFile]) -> bool
     ensures { result ≡ list_any (λ f. f.is_misfit) files.now }
 {
     files.iter().any(|file| file.is_misfit)
 }
 
-/// The exit status of a run with this verdict.
 fn status_of(verdict: Verdict) -> Status
     ensures { result ≡ status_of_verdict verdict }
 {

@@ -1,4 +1,4 @@
--- Texts that come in pieces, cut into records.
+-- Text that arrives in pieces, cut into records.
 use Rattle.std.specs.Prelude.{◌≡◌, ◌<◌, ◌≤◌, ◌+◌, ◌++◌, ℕ, Bool, true, List, [], length, drop, nat_le, Option, Some, None, Ok, Err}
 use Rattle.std.specs.List.{list_any}
 use Rattle.kpn_model.specs.declared.token.Token.{Token}
@@ -14,18 +14,18 @@ use Rattle.hox_stream.specs.declared.cutting.Refusal.TheVariants.{Fault, TooLong
 use Rattle.hox_stream.specs.declared.cutting.Next.{Next}
 use Rattle.hox_stream.specs.declared.cutting.Next.TheVariants.{Record, Refused, Wanting, Memory}
 
--- whether the first record of these bytes is there to its end
+-- whether the first record is complete
 abbrev pub has_record : Layout → List ℕ → Bool
 has_record (Lines decimals) bytes = list_any is_line_feed bytes
 has_record (Fields column) bytes = list_any is_line_feed bytes
 has_record (Frames frame) bytes = nat_le (frame_size frame) (length bytes)
 
--- why the first record of these bytes is refused
+-- why the first record is rejected
 abbrev pub IsRefused : Layout → Sort → List ℕ → Bool → Refusal → Type 0
 IsRefused layout sort bytes last (Fault fault) = (record_said layout sort (first layout bytes) ≡ Err fault) × (0 < length bytes) × IsWhole layout bytes last
 IsRefused layout sort bytes last TooLong = 4096 < length (first layout bytes)
 
--- what the first of these bytes say: a record, or one that is refused, or no record yet; or memory was refused
+-- what these bytes begin with: a record, a rejected one, or no record yet; or out of memory
 abbrev pub IsNext : Layout → Sort → List ℕ → Bool → Next → Type 0
 IsNext layout sort bytes last (Record said used) =
     (record_said layout sort (first layout bytes) ≡ Ok said) × (0 < length bytes) × (drop used bytes ≡ rest layout bytes) × (used ≤ length bytes) × IsWhole layout bytes last × (length (first layout bytes) ≤ 4096)
@@ -33,13 +33,13 @@ IsNext layout sort bytes last (Refused refusal) = IsRefused layout sort bytes la
 IsNext layout sort bytes last Wanting = (IsEnded layout bytes → ⊥) × (length bytes ≤ 4096) × (last ≡ true → bytes ≡ [])
 IsNext layout sort bytes last Memory = 0 < length bytes
 
--- the first records of a text, of this number, say these tokens, and this is what follows them: what that says comes after them
+-- the first `records` records of a text are these tokens, and `left` follows them
 pub record Leads (layout : Layout) (sort : Sort) (text left : List ℕ) (tokens : List Token) (records : ℕ) : Type 0 where
   pub says : (more : List Token) → Say layout sort left more → Say layout sort text (tokens ++ more)
   pub begins : (more : List Token) → Begin layout sort left more → Begin layout sort text (tokens ++ more)
   pub fails : (number : ℕ) (fault : RecordFault) → Fails layout sort left number fault → Fails layout sort text (records + number) fault
 
--- the same, if the text is known
+-- the text leads to what is left, if the text is known
 abbrev pub Passes : Layout → Sort → Option (List ℕ) → Option (List ℕ) → List Token → ℕ → Type 0
 Passes layout sort None left tokens records = Unit {0}
 Passes layout sort (Some text) None tokens records = ⊥

@@ -1,4 +1,4 @@
--- The kinds of the readers that stop at once, and the sketch of which they read the channels that are written out.
+-- The kinds of readers that stop at once, and the sketch in which they read the drained channels.
 use Rattle.std.specs.Prelude.{◌≡◌, ◌==◌, ◌&&◌, ◌||◌, ℕ, Bool, List, [], ◌∷◌, map, codes, Option, Some, None, if◌then◌else◌}
 use Rattle.std.specs.Option.{option_map_or}
 use Rattle.std.specs.List.{find, list_any}
@@ -17,7 +17,6 @@ use Rattle.kpn_sketch.specs.declared.sketch.ChannelSketch.{ChannelSketch}
 abbrev pub nothing_kept : List ℕ
 nothing_kept = 0 ∷ 0 ∷ 0 ∷ 0 ∷ []
 
--- the name of the kind that could read tokens of this sort
 abbrev pub exit_name : Sort → List ℕ
 exit_name Words = codes "words written out"
 exit_name Flags = codes "flags written out"
@@ -25,14 +24,12 @@ exit_name Flags = codes "flags written out"
 abbrev pub exit_named : List ℕ → Option (ℕ × ℕ)
 exit_named name = if bytes_eq name (exit_name Words) then Some (0, 0) else if bytes_eq name (exit_name Flags) then Some (1, 0) else None
 
--- one input of this sort, and no output
 abbrev pub one_input : Sort → Signature
 one_input sort = record { ins = Some sort ∷ None ∷ None ∷ []; outs = None ∷ None ∷ None ∷ [] }
 
 abbrev pub exit_ports : Card → Option Signature
 exit_ports card = if card.kind == 0 then Some (one_input Words) else if card.kind == 1 then Some (one_input Flags) else None
 
--- each stops at once
 abbrev pub exits : Family
 exits = record { start = λ card. nothing_kept; answer = λ card local last. record { next = local; act = Stop } }
 
@@ -46,7 +43,7 @@ is_reader kind = (bytes_eq kind (codes "sink") || bytes_eq kind (codes "drain"))
 abbrev pub is_one_of : List (List ℕ) → List ℕ → Bool
 is_one_of names name = list_any (λ other. bytes_eq other name) names
 
--- the channel of one of these names that leads to a process of this name
+-- the channel with one of these names that leads to this process
 abbrev pub channel_to : List ChannelSketch → List (List ℕ) → List ℕ → Option ChannelSketch
 channel_to channels names process = find (λ c. bytes_eq c.to process && is_one_of names c.name) channels
 
@@ -54,6 +51,5 @@ channel_to channels names process = find (λ c. bytes_eq c.to process && is_one_
 abbrev pub exited : List ChannelSketch → List (List ℕ) → ProcessSketch → ProcessSketch
 exited channels names p = if is_reader p.kind then option_map_or (λ c. record p { kind = exit_name c.sort; args = [] }) (channel_to channels names p.name) p else p
 
--- the sketch in which what only reads a channel of one of these names stops at once
 abbrev pub with_exits : List (List ℕ) → Sketch → Sketch
 with_exits names sketch = record sketch { processes = map (exited sketch.channels names) sketch.processes }

@@ -1,4 +1,4 @@
--- With what a program exits whose stream ended.
+-- The exit status of a program when its stream ends.
 use Rattle.kpn_model.specs.declared.verdict.Verdict.{Verdict}
 use Rattle.kpn_model.specs.declared.verdict.Verdict.TheVariants.{Finished, RanDry, Cycle, Cut as WasCut, Full, Memory as NoMemory}
 use Rattle.kpn_front.specs.declared.status.Status.{Status}
@@ -6,7 +6,7 @@ use Rattle.kpn_front.specs.declared.status.Status.TheVariants.{Success, Refused,
 use Rattle.hox_stream.specs.declared.finish.Finish.{Finish}
 use Rattle.hox_stream.specs.declared.finish.Finish.TheVariants.{Over, Refused as RefusedRecord, Unread, OtherSort, Unwritten, Misfit, Apart, Idle, Memory, Cut}
 
--- where nothing goes on the verdict on the network decides
+-- when no process can continue, the verdict on the network decides
 abbrev pub status_of_verdict : Verdict → Status
 status_of_verdict Finished = Success
 status_of_verdict RanDry = Success

@@ -1,4 +1,4 @@
--- A column of a file of several channels.
+-- A column of a table.
 use Rattle.std.specs.Prelude.{◌≡◌, ◌++◌, ◌||◌, ℕ, false, not, List, [], length}
 use Rattle.kpn_model.specs.declared.token.Token.{Token}
 use Rattle.kpn_tokens.specs.declared.layouts.Decimals.{Decimals}
@@ -7,12 +7,11 @@ use Rattle.kpn_tokens.specs.Tables.{column_layout}
 use Rattle.hox_stream.specs.Ports.{CountsOn, are_written, clipped_of, written_of}
 use Rattle.hox_stream.specs.Views.{LaneView}
 
--- a column for a channel, none of whose tokens was taken
 abbrev pub new_lane : Table → ℕ → Decimals → LaneView
 new_lane table channel decimals =
     record { head = record { channel = channel; decimals = decimals; layout = column_layout table 1 0 decimals }; waiting = []; is_misfit = false; tokens = 0; clipped = 0 }
 
--- these tokens were taken into a column, up to the first that does not fit
+-- a column took these tokens, up to the first that does not fit
 pub record TakesIn (p q : LaneView) (tokens : List Token) : Type 0 where
   pub head : q.head ≡ p.head
   pub waiting : q.waiting ≡ p.waiting ++ written_of p.head.layout p.is_misfit tokens

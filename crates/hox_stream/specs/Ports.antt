@@ -15,11 +15,11 @@ use Rattle.hox_stream.specs.declared.outlet.WriteFault.TheVariants.{Failed, Misf
 use Rattle.hox_stream.specs.Cutting.{Passes, has_record}
 use Rattle.hox_stream.specs.Views.{InletView, OutletView, unread}
 
--- m is n and k more; a count stays at 2 ^ 64 - 1 once it is there
+-- m is n + k; a count stays at 2 ^ 64 - 1 once it is there
 abbrev pub CountsOn : ℕ → ℕ → ℕ → Type 0
 CountsOn n m k = n ≤ 2 ^ 64 - 1 → m ≡ u64_saturate (n + k)
 
--- these tokens were taken from a source: they are what the records say that were read of it; at most 8,192 bytes are kept
+-- these tokens were taken from a source, as its records say; it holds at most 8,192 bytes
 pub record Takes (p q : InletView) (tokens : List Token) : Type 0 where
   pub channel : q.channel ≡ p.channel
   pub layout : q.layout ≡ p.layout
@@ -30,12 +30,10 @@ pub record Takes (p q : InletView) (tokens : List Token) : Type 0 where
   pub passes : Passes p.layout p.sort (unread p) (unread q) tokens records
   pub held : length p.kept ≤ 8192 → length q.kept ≤ 8192
 
--- each of these tokens has a record in the layout, or is clipped
 abbrev pub are_written : Layout → List Token → Bool
 are_written layout tokens = clips layout || list_all (fits layout) tokens
 
--- of these tokens those that have a record in the layout: up to the first that does not fit, unless that is clipped. Once one did not
--- fit there are no more
+-- the tokens before the first that does not fit and is not clipped; none after such a misfit
 abbrev pub written_of : Layout → Bool → List Token → List Token
 written_of layout misfit tokens = if misfit then [] else if clips layout then tokens else take_while (fits layout) tokens
 
@@ -43,8 +41,7 @@ written_of layout misfit tokens = if misfit then [] else if clips layout then to
 abbrev pub clipped_of : Layout → Bool → List Token → ℕ
 clipped_of layout misfit tokens = if misfit then 0 else if clips layout then misfits layout tokens else 0
 
--- these tokens were written to a sink, each as a record, up to the first that does not fit, unless a write has failed; at most 4,096
--- bytes wait
+-- these tokens were written to a sink, up to the first misfit, unless a write failed; at most 4,096 bytes wait
 pub record Writes (p q : OutletView) (tokens : List Token) : Type 0 where
   pub channel : q.channel ≡ p.channel
   pub layout : q.layout ≡ p.layout
@@ -55,13 +52,12 @@ pub record Writes (p q : OutletView) (tokens : List Token) : Type 0 where
   pub clipped : q.has_failed ≡ false → CountsOn p.clipped q.clipped (clipped_of p.layout p.is_misfit tokens)
   pub held : length p.waiting ≤ 4096 → length q.waiting ≤ 4096
 
--- when tokens are not written for each cause: a write has failed, or memory was refused; or a token does not fit
+-- when a write ends with each fault
 abbrev pub IsWriteFault : OutletView → WriteFault → Type 0
 IsWriteFault q Failed = q.has_failed ≡ true
 IsWriteFault q Misfit = q.is_misfit ≡ true
 IsWriteFault q Memory = q.has_failed ≡ true
 
--- a source was read on: its records are as they were
 pub record ReadsOn (p q : InletView) : Type 0 where
   pub channel : q.channel ≡ p.channel
   pub layout : q.layout ≡ p.layout
@@ -73,34 +69,32 @@ pub record ReadsOn (p q : InletView) : Type 0 where
   pub tokens : q.tokens ≡ p.tokens
   pub records : q.records ≡ p.records
 
--- a source has to be read on for its next record: that is not there to its end, and the source is not over
+-- the next record is incomplete, and the source is not at its end
 abbrev pub wants_more : InletView → Bool
 wants_more p = not p.is_over && not (has_record p.layout p.kept)
 
--- a read of the source was made: bytes came, or it is over now
+-- the source was read: bytes came, or it is now at its end
 abbrev pub IsRead : InletView → InletView → Type 0
 IsRead p q = (length p.kept < length q.kept) ⊎ ((p.is_over ≡ false) × (q.is_over ≡ true))
 
--- no read of the source was made
 pub record IsNotRead (p q : InletView) : Type 0 where
   pub kept : length q.kept ≤ length p.kept
   pub remaining : q.remaining ≡ p.remaining
   pub is_over : q.is_over ≡ p.is_over
 
--- a read of the source was made, and then only records were taken that had come
+-- the source was read once, and then only records were taken
 pub record IsReadOnce (p q : InletView) : Type 0 where
   pub between : InletView
   pub read : IsRead p between
   pub taken : IsNotRead between q
 
--- the flow is of the same network, with the same inputs and outputs
 pub record IsSameNet (s t : FlowView) : Type 0 where
   pub network : t.network ≡ s.network
   pub inputs : t.inputs ≡ s.inputs
   pub outputs : t.outputs ≡ s.outputs
 
 module _ (kinds : Family) (s t : FlowView) where
-  -- what was taken from a source was fed into its channel, and nothing else came to pass
+  -- the tokens taken from a source were fed into its channel; nothing else happened
   pub record Pours (p q : InletView) : Type 0 where
     pub same : IsSameNet s t
     pub tokens : List Token
@@ -108,7 +102,7 @@ module _ (kinds : Family) (s t : FlowView) where
     pub flows : Flows kinds s.network s.state (map (λ token. Fed p.channel token) tokens) t.state
     pub at_ends : IsAtEnds (is_among s.inputs) (is_among s.outputs) (map (λ token. Fed p.channel token) tokens)
 
-  -- what was drained of a channel was written to its sink, and nothing else came to pass
+  -- the tokens drained from a channel were written to its sink; nothing else happened
   pub record Tells (p q : OutletView) : Type 0 where
     pub same : IsSameNet s t
     pub tokens : List Token

@@ -23,27 +23,21 @@ use Rattle.hox_stream.specs.Streams.{AreWritten, IsFinish, channel_at, inlet_at,
 use Rattle.hox_stream.specs.Tables.{EndsTable, WritesTable, taken_columns}
 use Rattle.hox_stream.specs.Views.{InletView, LaneView, OutletView, OutsView, TableView, outs}
 
--- a source for a channel, of which nothing was read
 abbrev pub new_inlet : Network → ℕ → Layout → Option (List ℕ) → Bool → InletView
 new_inlet net c layout remaining has_failed = record { channel = c; layout = layout; sort = (channel_of net c).sort; kept = []; remaining = remaining; has_failed = has_failed; is_over = false; records = 0; tokens = 0 }
 
--- a sink for a channel, to which nothing was written
 abbrev pub new_outlet : ℕ → Layout → Option (List ℕ) → OutletView
 new_outlet c layout contents = record { channel = c; layout = layout; contents = contents; waiting = []; has_failed = false; is_misfit = false; tokens = 0; clipped = 0 }
 
--- each source is for the channel at its place
 abbrev pub new_inlets : {X : Type 0} → (X → Option (List ℕ)) → (X → Bool) → Network → List ℕ → List (LaidOut X) → List InletView
 new_inlets remaining has_failed net channels sources = map (λ p. new_inlet net p.0 p.1.layout (remaining p.1.stream) (has_failed p.1.stream)) (zip channels sources)
 
--- and so is each sink
 abbrev pub new_outlets : {X : Type 0} → (X → SinkView) → List ℕ → List (LaidOut X) → List OutletView
 new_outlets seen channels sinks = map (λ p. new_outlet p.0 p.1.layout (seen p.1.stream).contents) (zip channels sinks)
 
--- the columns of a table are for the channels at their places
 abbrev pub new_lanes : Table → List ℕ → List Decimals → List LaneView
 new_lanes table channels columns = map (λ p. new_lane table p.0 p.1) (zip channels columns)
 
--- a table with these columns, to which nothing was written; and those of several, one after the other
 abbrev pub new_table : {X : Type 0} → (X → SinkView) → List ℕ → LaidTable X → TableView
 new_table seen channels laid = record { table = laid.table; lanes = new_lanes laid.table channels laid.columns.items; contents = (seen laid.stream).contents; waiting = []; has_failed = false }
 
@@ -51,15 +45,14 @@ abbrev pub new_tables : {X : Type 0} → (X → SinkView) → List ℕ → List 
 new_tables seen channels [] = []
 new_tables seen channels (laid ∷ more) = new_table seen channels laid ∷ new_tables seen (drop (length laid.columns.items) channels) more
 
--- and they stand behind the sinks
+-- the tables follow the sinks
 abbrev pub new_outs : {X : Type 0} → (X → SinkView) → List ℕ → List (LaidOut X) → List (LaidTable X) → OutsView
 new_outs seen channels sinks tables = outs (new_outlets seen channels sinks) (new_tables seen (drop (length sinks) channels) tables)
 
--- from the start of its network s was led on by events at its ends, and it ended for this cause. What was fed into the channel of each
--- source is what the records say that were read of it, and what was drained of the channel of each sink is what was written to it; what was
--- drained of those of a table is what stands in its full rows, which were written first, and in the rest, and so its columns are; and
--- what was done is a run of the network that held all that was fed from the start. At most 8,192 bytes are kept of each source, and at most
--- 4,096 wait at each sink
+-- from the start of its network, events at its ends led s to t, and it ended for this cause. The records read
+-- from a source were fed into its channel; the tokens drained from a channel were written to its sink, or to
+-- its column: first the full rows, then the rest. What happened is a run of the network that held all its
+-- input from the start. At most 8,192 bytes are held of each source, and at most 4,096 wait at each sink
 pub record Serves (kinds : Family) (s t : FlowView) (ins ins_after : List InletView) (before after : OutsView) (finish : Finish) : Type 0 where
   pub same : IsSameNet s t
   pub events : List Event

@@ -24,7 +24,6 @@ use Rattle.hox_stream.specs.declared.starting.StreamFault.TheVariants.{Descripti
 abbrev pub AreNamed : Network → List (List ℕ) → List ℕ → Type 0
 AreNamed net names channels = map (number_of_channel net) names ≡ map Some channels
 
--- the process of this number has this name
 abbrev pub IsNameOf : Network → ℕ → List ℕ → Type 0
 IsNameOf net p name = option_map (λ (x : Process). x.name) (slice_get net.processes p) ≡ Some name
 
@@ -36,22 +35,20 @@ abbrev pub outer_process : Way → Channel → ℕ
 outer_process In c = c.writer
 outer_process Out c = c.reader
 
--- a channel stands in the lists of inputs and outputs twice
 abbrev pub is_twice : List ℕ → List ℕ → Bool
 is_twice inputs outputs = (has_twice inputs || has_twice outputs) || list_any (is_among outputs) inputs
 
--- a flow at the start of its network, with these inputs and outputs, of which none is named twice
+-- a flow at the start of its network, with these inputs and outputs, all different
 pub record IsStart (kinds : Family) (s : FlowView) (inputs outputs : List ℕ) : Type 0 where
   pub state : s.state ≡ start kinds s.network
   pub inputs_are : inputs ≡ s.inputs
   pub outputs_are : outputs ≡ s.outputs
   pub apart : AreApart inputs outputs
 
--- the fault of a sketch that describes no network
 abbrev pub IsNoNetwork : (List ℕ → Option (ℕ × ℕ)) → (Card → Option Signature) → Sketch → NetFault → Type 0
 IsNoNetwork named ports sketch fault = fault ≢ NoMemoryForNet → first_fault named ports sketch ≡ Some fault
 
--- why a stream with these inputs and outputs is not opened
+-- why a flow with these inputs and outputs is not opened
 abbrev pub IsStartFault : List ℕ → List ℕ → StreamFault → Type 0
 IsStartFault inputs outputs Twice = is_twice inputs outputs ≡ true
 IsStartFault inputs outputs Memory = Unit {0}
@@ -60,11 +57,11 @@ IsStartFault inputs outputs (Input fault) = ⊥
 IsStartFault inputs outputs (Output fault) = ⊥
 
 module _ (kinds : Family) (net : Network) where
-  -- the process at the outer end of c does more than to stop
+  -- the process at the outer end of c does more than stop
   abbrev pub is_busy : Way → ℕ → Bool
   is_busy way c = not (stops_at_once kinds (cards_in net) (outer_process way (channel_of net c)))
 
-  -- the flow stands at the start of the network; only the outside is at its ends
+  -- the flow is at the start of the network; only the outside is at its ends
   pub record IsFresh (s : FlowView) : Type 0 where
     pub network : s.network ≡ net
     pub state : s.state ≡ start kinds net
@@ -78,14 +75,14 @@ module _ (kinds : Family) (net : Network) where
     pub inputs : AreNamed net fed s.inputs
     pub outputs : AreNamed net drained s.outputs
 
-  -- why the channel of one of these names can't be fed, or drained
+  -- why the channel of one of these names can't be fed or drained
   abbrev pub IsNameFault : Way → List (List ℕ) → NameFault → Type 0
   IsNameFault way names (NoChannel k) = (k < length names) × (number_of_channel net (get_or names k []) ≡ None)
   IsNameFault way names (Busy k name) =
       (k < length names) × ((c : ℕ) × (number_of_channel net (get_or names k []) ≡ Some c) × (is_busy way c ≡ true) × IsNameOf net (outer_process way (channel_of net c)) name)
   IsNameFault way names NoMemory = Unit {0}
 
-  -- why a stream with these inputs and outputs is not opened; its description may have a fault itself
+  -- why a stream is not opened
   abbrev pub IsStreamFault : (NetFault → Type 0) → List (List ℕ) → List (List ℕ) → StreamFault → Type 0
   IsStreamFault no_network fed drained (Description fault) = no_network fault
   IsStreamFault no_network fed drained (Input fault) = IsNameFault In fed fault

@@ -25,27 +25,25 @@ outlet_at outs k = get_or outs k no_outlet
 abbrev pub table_at : List TableView → ℕ → TableView
 table_at tables k = get_or tables k no_table
 
--- the channel of a column
 abbrev pub channel_at : TableView → ℕ → ℕ
 channel_at p i = (lane_at p i).head.channel
 
--- no two sources are for one channel, and no two sinks
+-- no two sources, and no two sinks, share a channel
 abbrev pub AreInletsApart : List InletView → Type 0
 AreInletsApart ins = (j k : ℕ) → j < length ins → k < length ins → (inlet_at ins j).channel ≡ (inlet_at ins k).channel → j ≡ k
 
 abbrev pub AreOutletsApart : List OutletView → Type 0
 AreOutletsApart outs = (j k : ℕ) → j < length outs → k < length outs → (outlet_at outs j).channel ≡ (outlet_at outs k).channel → j ≡ k
 
--- nor two columns, nor a sink and a column
+-- no two sinks or columns share a channel
 pub record AreOutsApart (outs : OutsView) : Type 0 where
   pub sinks : AreOutletsApart outs.sinks
   pub both : (j k i : ℕ) → j < length outs.sinks → k < length outs.tables → i < length (table_at outs.tables k).lanes → (outlet_at outs.sinks j).channel ≢ channel_at (table_at outs.tables k) i
   pub tables : (j k h i : ℕ) → j < length outs.tables → k < length outs.tables → h < length (table_at outs.tables j).lanes → i < length (table_at outs.tables k).lanes
       → channel_at (table_at outs.tables j) h ≡ channel_at (table_at outs.tables k) i → (j ≡ k) × (h ≡ i)
 
--- events at its ends lead the flow on. What was fed into the channel of each source is what the records say that were read of it, and
--- what was drained of the channel of each sink is what was written to it; what was drained of those of the columns of a file is what stands in
--- the rows that were written to it, and what waits for its rows
+-- events at its ends lead the flow on. The records read from a source were fed into its channel; the tokens
+-- drained from a channel were written to its sink, or to its column, or wait there for their rows
 pub record Streams (kinds : Family) (s t : FlowView) (ins ins_after : List InletView) (outs outs_after : OutsView) : Type 0 where
   pub same : IsSameNet s t
   pub events : List Event
@@ -58,22 +56,20 @@ pub record Streams (kinds : Family) (s t : FlowView) (ins ins_after : List Inlet
   pub written : AreOutsApart outs → (k : ℕ) → k < length outs.sinks → Writes (outlet_at outs.sinks k) (outlet_at outs_after.sinks k) (drained events (outlet_at outs.sinks k).channel)
   pub tabled : AreOutsApart outs → (k : ℕ) → k < length outs.tables → WritesTable (table_at outs.tables k) (table_at outs_after.tables k) (λ i. drained events (channel_at (table_at outs.tables k) i))
 
--- nothing waits to be written to a sink, unless a write to it has failed. Tokens may wait for their rows
+-- nothing waits to be written to a sink, unless a write to it failed. Tokens may wait for their rows
 pub record AreWritten (outs : OutsView) : Type 0 where
   pub sinks : (k : ℕ) → k < length outs.sinks → (outlet_at outs.sinks k).has_failed ≡ false → (outlet_at outs.sinks k).waiting ≡ []
   pub tables : (k : ℕ) → k < length outs.tables → (table_at outs.tables k).has_failed ≡ false → (table_at outs.tables k).waiting ≡ []
 
--- a sink that can't be written stays so, and so does one for which a token did not fit
+-- a failed sink stays failed; so does a misfit
 pub record FaultsStay (p q : OutletView) : Type 0 where
   pub failed : p.has_failed ≡ true → q.has_failed ≡ true
   pub misfit : q.is_misfit ≡ p.is_misfit
 
--- and so does a file of several channels; what waits in its columns stays
 pub record TableStays (p q : TableView) : Type 0 where
   pub failed : p.has_failed ≡ true → q.has_failed ≡ true
   pub lanes : q.lanes ≡ p.lanes
 
--- there are as many sinks, and their faults stay
 abbrev pub AllFaultsStay : List OutletView → List OutletView → Type 0
 AllFaultsStay sinks after = (length after ≡ length sinks) × ((k : ℕ) → FaultsStay (outlet_at sinks k) (outlet_at after k))
 
@@ -83,24 +79,21 @@ AllTablesStay tables after = (length after ≡ length tables) × ((k : ℕ) → 
 abbrev pub AllStay : OutsView → OutsView → Type 0
 AllStay outs after = AllFaultsStay outs.sinks after.sinks × AllTablesStay outs.tables after.tables
 
--- a process waits for a token of this source
 abbrev pub is_waited_for : FlowView → InletView → Bool
 is_waited_for s p = is_among s.unended p.channel && starves s.network s.standings p.channel
 
 abbrev pub NoneIsWaitedFor : FlowView → List InletView → Type 0
 NoneIsWaitedFor s ins = (k : ℕ) → k < length ins → is_waited_for s (inlet_at ins k) ≡ false
 
--- what waits in each file of several channels was written, also where rows are not full
+-- all that waits in each table was written, with gaps
 abbrev pub AllEnd : List TableView → List TableView → Type 0
 AllEnd tables after = (length after ≡ length tables) × ((k : ℕ) → k < length tables → EndsTable (table_at tables k) (table_at after k))
 
--- this is the place of a sink, or that of a file of several channels, which stand behind the sinks, of which this holds
+-- k is the place of a sink with P, or of a table, counted after the sinks, with Q
 abbrev pub IsOutAt : OutsView → ℕ → (OutletView → Type 0) → (TableView → Type 0) → Type 0
 IsOutAt outs k P Q = ((k < length outs.sinks) × P (outlet_at outs.sinks k)) ⊎ ((j : ℕ) × (k ≡ length outs.sinks + j) × (j < length outs.tables) × Q (table_at outs.tables j))
 
--- when a stream ends for each cause: nothing goes on, and neither feeding nor draining would help; the next record of a source
--- is refused; a read of a source has failed; the tokens of its channel are of another sort; a sink can't be written; a token for a sink
--- does not fit; more than 1,000,000 tokens of a channel wait for those of another one of their file; no process waits for a token of a source
+-- when a stream ends for each cause
 abbrev pub IsFinish : Family → FlowView → List InletView → OutsView → Finish → Type 0
 IsFinish kinds s ins outs (Over end) = NothingGoesOn kinds s.network s.state end × NoneCanHelp kinds s.network s.unended s.outputs s.state
 IsFinish kinds s ins outs (Refused k refusal) = (k < length ins) × IsRefused (inlet_at ins k).layout (inlet_at ins k).sort (inlet_at ins k).kept (inlet_at ins k).is_over refusal
@@ -113,8 +106,8 @@ IsFinish kinds s ins outs Idle = NoneIsWaitedFor s ins
 IsFinish kinds s ins outs Memory = Unit {0}
 IsFinish kinds s ins outs Cut = Unit {0}
 
--- events led the flow on until it ended for this cause, or the rest could not be written, which had waited for its rows between; and what was
--- done is a run of the network that held all that was fed from the start
+-- events led the flow on until it ended for this cause, or until writing the last rows failed. What happened
+-- is a run of the network that held all its input from the start
 pub record StreamsOut (kinds : Family) (s t : FlowView) (ins ins_after : List InletView) (before after : OutsView) (finish : Finish) : Type 0 where
   pub between : List TableView
   pub streams : Streams kinds s t ins ins_after before (outs after.sinks between)

@@ -1,4 +1,4 @@
--- Tokens that go out to a file of several channels.
+-- Tokens that go out to a table: a file of several channels.
 use Rattle.std.specs.Prelude.{◌≡◌, ◌<◌, ◌≤◌, ◌++◌, ◌||◌, ◌==◌, ℕ, zero, suc, true, false, not, List, [], ◌∷◌, None, drop, get_or, if◌then◌else◌, is_some, length, map, min, ⊤}
 use Rattle.std.specs.List.{AllByRecursion, flat_map}
 use Rattle.std.specs.Io.KnownBytes.{Appends}
@@ -21,19 +21,18 @@ lane_at p i = get_or p.lanes i no_lane
 abbrev pub heads_of : List LaneView → List HeadView
 heads_of lanes = map (λ lane. lane.head) lanes
 
--- what waits in columns for their rows
 abbrev pub column_of : LaneView → ColumnView
 column_of lane = record { decimals = lane.head.decimals; tokens = lane.waiting }
 
 abbrev pub columns_of : List LaneView → List ColumnView
 columns_of lanes = map column_of lanes
 
--- what was taken into columns of what was drained of their channels, up to what does not fit
+-- the drained tokens that columns take, up to those that do not fit
 abbrev pub taken_columns : List LaneView → (ℕ → List Token) → List ColumnView
 taken_columns lanes drained_of =
     map (λ lane. record { decimals = lane.head.decimals; tokens = written_of lane.head.layout lane.is_misfit (drained_of lane.head.channel) }) lanes
 
--- what waits after the first rows, so many
+-- what waits after the first row, and after the first n
 abbrev pub under : LaneView → LaneView
 under lane = record lane { waiting = drop 1 lane.waiting }
 
@@ -41,36 +40,34 @@ abbrev pub past : ℕ → List LaneView → List LaneView
 past zero lanes = lanes
 past (suc n) lanes = past n (map under lanes)
 
--- how many rows have a token of each column
+-- how many rows have a token in each column
 abbrev pub shortest : List LaneView → ℕ
 shortest [] = 0
 shortest (lane ∷ []) = length lane.waiting
 shortest (lane ∷ other ∷ lanes) = min (length lane.waiting) (shortest (other ∷ lanes))
 
--- a row with a token of each column
 abbrev pub IsFullRow : List HeadView → List Cell → Type 0
 IsFullRow [] [] = ⊤
 IsFullRow [] (cell ∷ cells) = ⊥
 IsFullRow (head ∷ heads) [] = ⊥
 IsFullRow (head ∷ heads) (cell ∷ cells) = (cell.decimals ≡ head.decimals) × (is_some cell.token ≡ true) × IsFullRow heads cells
 
--- the tokens that rows have in a column
 abbrev pub no_cell : Cell
 no_cell = record { decimals = record { digits = 0; is_unsigned = false }; token = None }
 
 abbrev pub column_in : ℕ → List (List Cell) → List Token
 column_in place rows = flat_map (λ row. listed (get_or row place no_cell).token) rows
 
--- these tokens were taken into the column at a place, up to the first that does not fit. With those that waited before they are what stands in
--- these rows and what waits now
+-- the column at a place took these tokens, up to the first misfit. They and those that waited before are in
+-- these rows, or wait now
 pub record WritesLane (rows : List (List Cell)) (place : ℕ) (p q : LaneView) (tokens : List Token) : Type 0 where
   pub waiting : p.waiting ++ written_of p.head.layout p.is_misfit tokens ≡ column_in place rows ++ q.waiting
   pub misfit : q.is_misfit ≡ (p.is_misfit || not (are_written p.head.layout tokens))
   pub counted : CountsOn p.tokens q.tokens (length (written_of p.head.layout p.is_misfit tokens))
   pub clipped : CountsOn p.clipped q.clipped (clipped_of p.head.layout p.is_misfit tokens)
 
--- tokens were taken into each column, and what was written to the file are the rows that then had a token of each column, unless a write has
--- failed; at most 4,096 bytes wait
+-- each column took tokens, and the rows that became full were written, unless a write failed; at most 4,096
+-- bytes wait
 pub record WritesTable (p q : TableView) (tokens : ℕ → List Token) : Type 0 where
   pub table : q.table ≡ p.table
   pub heads : heads_of q.lanes ≡ heads_of p.lanes
@@ -82,7 +79,7 @@ pub record WritesTable (p q : TableView) (tokens : ℕ → List Token) : Type 0 
   pub whole : q.has_failed ≡ false → shortest p.lanes ≡ 0 → shortest q.lanes ≡ 0
   pub held : length p.waiting ≤ 4096 → length q.waiting ≤ 4096
 
--- so many rows of what waits were written, with no token where a column has none any more
+-- n rows were written, with gaps where a column has no token left
 pub record RowsGo (p q : TableView) (n : ℕ) : Type 0 where
   pub table : q.table ≡ p.table
   pub heads : heads_of q.lanes ≡ heads_of p.lanes
@@ -91,7 +88,6 @@ pub record RowsGo (p q : TableView) (n : ℕ) : Type 0 where
   pub lanes : q.has_failed ≡ false → q.lanes ≡ past n p.lanes
   pub held : length p.waiting ≤ 4096 → length q.waiting ≤ 4096
 
--- what waits to be written was written
 pub record FlushesTable (p q : TableView) : Type 0 where
   pub table : q.table ≡ p.table
   pub lanes : q.lanes ≡ p.lanes
@@ -101,17 +97,15 @@ pub record FlushesTable (p q : TableView) : Type 0 where
   pub emptied : q.has_failed ≡ false → q.waiting ≡ []
   pub held : length p.waiting ≤ 4096 → length q.waiting ≤ 4096
 
--- all that waits was written, with no token where a column is shorter than another one
+-- all that waits was written, with gaps where a column is shorter
 pub record EndsTable (p q : TableView) : Type 0 where
   pub rows : RowsGo p q (longest (columns_of p.lanes))
   pub emptied : q.has_failed ≡ false → q.waiting ≡ []
 
--- these tokens for one column, and none for the others
 abbrev pub only_at : ℕ → List Token → ℕ → List Token
 only_at place tokens i = if i == place then tokens else []
 
--- why tokens are not written: a write has failed, or memory was refused; a token does not fit; or more than 1,000,000 tokens of a channel wait
--- for those of another
+-- when a write ends with each fault
 abbrev pub IsTableFault : TableView → TableFault → Type 0
 IsTableFault q Failed = q.has_failed ≡ true
 IsTableFault q Memory = q.has_failed ≡ true
@@ -119,7 +113,7 @@ IsTableFault q Misfit = (i : ℕ) × (i < length q.lanes) × ((lane_at q i).is_m
 IsTableFault q Apart = (i : ℕ) × (i < length q.lanes) × (1000000 < length (lane_at q i).waiting)
 
 module _ (kinds : Family) (s t : FlowView) where
-  -- what was drained of the channel of a column was taken into it, and nothing else came to pass
+  -- the tokens drained from a column's channel were taken into it; nothing else happened
   pub record TellsLane (p q : TableView) (i : ℕ) : Type 0 where
     pub same : IsSameNet s t
     pub tokens : List Token

@@ -5,17 +5,17 @@ use Rattle.hox_stream.specs.Ports.{IsNotRead, IsReadOnce, wants_more}
 use Rattle.hox_stream.specs.Streams.{AreWritten, inlet_at, is_waited_for}
 use Rattle.hox_stream.specs.Views.{InletView, OutsView}
 
--- j comes before k if one goes round from n on
+-- going round from n on, j comes before k
 abbrev pub ComesBefore : ℕ → ℕ → ℕ → Type 0
 ComesBefore n j k = ((n ≤ j) × (j < k)) ⊎ ((k < n) × ((n ≤ j) ⊎ (j < k)))
 
--- it is the turn of source k: it is the first, if one goes round from n on, for whose tokens a process waits
+-- source k is the first, going round from n on, that a process waits for
 pub record IsTurnOf (s : FlowView) (ins : List InletView) (n k : ℕ) : Type 0 where
   pub within : k < length ins
   pub waited : is_waited_for s (inlet_at ins k) ≡ true
   pub first : (j : ℕ) → j < length ins → ComesBefore n j k → is_waited_for s (inlet_at ins j) ≡ false
 
--- the source whose turn it was was poured, and no other: if it wanted more it was read. The next turn begins behind it
+-- only the source in turn was poured, and read if it needed to be. The next turn begins after it
 pub record TakesTurn (s : FlowView) (ins after : List InletView) (n next : ℕ) : Type 0 where
   pub place : ℕ
   pub turn : IsTurnOf s ins n place
@@ -23,14 +23,12 @@ pub record TakesTurn (s : FlowView) (ins after : List InletView) (n next : ℕ) 
   pub others : (j : ℕ) → (j ≡ place → ⊥) → inlet_at after j ≡ inlet_at ins j
   pub behind : next ≡ place + 1
 
--- some source took its turn, or none did
 abbrev pub PassesTurn : List InletView → List InletView → ℕ → ℕ → Type 0
 PassesTurn ins after n next = ((s : FlowView) × TakesTurn s ins after n next) ⊎ ((after ≡ ins) × (next ≡ n))
 
--- a source that does not want more is not read
 abbrev pub AreReadIfWanted : List InletView → List InletView → Type 0
 AreReadIfWanted ins after = (k : ℕ) → k < length ins → wants_more (inlet_at ins k) ≡ false → IsNotRead (inlet_at ins k) (inlet_at after k)
 
--- no source is read unless nothing waits to be written
+-- no source is read while output waits
 abbrev pub AreReadUnheld : List InletView → List InletView → OutsView → Type 0
 AreReadUnheld ins after outs = AreWritten outs ⊎ ((k : ℕ) → k < length ins → IsNotRead (inlet_at ins k) (inlet_at after k))

@@ -11,8 +11,8 @@ use Rattle.kpn_tokens.specs.declared.layouts.Separator.TheVariants.{Comma}
 use Rattle.kpn_tokens.specs.declared.tables.Table.{Table}
 use Rattle.kpn_tokens.specs.declared.tables.Table.TheVariants.{Rows}
 
--- a source of tokens for a channel, and how they are laid out in it: what was read and is not yet said, what is left to read, if that
--- is known, whether a read has failed, and whether the source has come to its end; and how many records and how many tokens were taken
+-- a source: its channel, layout and sort; the bytes read and not taken; those left to read, if known; whether
+-- a read failed; whether it is at its end; how many records and tokens were taken
 pub record InletView : Type 0 where
   pub channel : ℕ
   pub layout : Layout
@@ -24,13 +24,12 @@ pub record InletView : Type 0 where
   pub records : ℕ
   pub tokens : ℕ
 
--- what is still to be said, if that is known
+-- the bytes not yet taken, if known
 abbrev pub unread : InletView → Option (List ℕ)
 unread p = prepend_known p.kept p.remaining
 
--- a sink for the tokens of a channel, and how they are laid out in it: what was written, if that is known, with what waits to be
--- written; what of it waits; whether a write has failed, and whether a token did not fit; and how many tokens were written, or wait to
--- be, and how many of them were clipped
+-- a sink: its channel and layout; what is written together with what waits, if known; what waits; whether a
+-- write failed, or a token did not fit; how many tokens are written or wait, and how many were clipped
 pub record OutletView : Type 0 where
   pub channel : ℕ
   pub layout : Layout
@@ -41,13 +40,13 @@ pub record OutletView : Type 0 where
   pub tokens : ℕ
   pub clipped : ℕ
 
--- the head of a column of a file of several channels: its channel, how a word of it is written, and how a file of it alone is laid out
+-- the head of a column: its channel, the format of its words, and the layout of a file of it alone
 pub record HeadView : Type 0 where
   pub channel : ℕ
   pub decimals : Decimals
   pub layout : Layout
 
--- such a column: its tokens that wait for their rows; whether one did not fit; and how many were taken, and how many of them were clipped
+-- a column: its tokens that wait; whether one did not fit; how many it took, and how many were clipped
 pub record LaneView : Type 0 where
   pub head : HeadView
   pub waiting : List Token
@@ -55,8 +54,7 @@ pub record LaneView : Type 0 where
   pub tokens : ℕ
   pub clipped : ℕ
 
--- a file of several channels, and how they stand in it: its columns; what was written, if that is known, with what waits to be written;
--- what of it waits; and whether a write has failed
+-- a table: its columns; what is written together with what waits, if known; what waits; whether a write failed
 pub record TableView : Type 0 where
   pub table : Table
   pub lanes : List LaneView
@@ -64,7 +62,7 @@ pub record TableView : Type 0 where
   pub waiting : List ℕ
   pub has_failed : Bool
 
--- all to which tokens go out: files of one channel, and then files of several
+-- all sinks: those of one channel, and then those of several
 pub record OutsView : Type 0 where
   pub sinks : List OutletView
   pub tables : List TableView

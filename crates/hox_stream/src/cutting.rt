@@ -1,4 +1,4 @@
-//! A text that comes in pieces, cut into records.
+//! Cuts text that arrives in pieces into records.
 ghost use Rattle.std.specs.Prelude.{◌≡◌, Bool, IfSome, Ok, Some};
 ghost use Rattle.kpn_model.specs.Valid.{IsOfSort};
 ghost use Rattle.kpn_tokens.specs.declared.layouts.Layout.TheVariants as layouts;
@@ -10,20 +10,20 @@ use kpn_tokens::{
 };
 use std::alloc::Global;
 
-/// How many bytes a record may have, a line without its line feed.
+/// The maximum length of a record in bytes, for a line without its line feed.
 pub const LONGEST_RECORD: usize = 4096;
 
-/// Why a record is refused.
+/// Why a record is rejected.
 #[derive(Clone, Copy, Debug, PartialEq, Eq)]
 pub enum Refusal {
-    /// It says no token of the sort.
+    /// It is no token of the sort.
     Fault(RecordFault),
     /// It has more than [`LONGEST_RECORD`] bytes.
     TooLong,
 }
 
-/// What the first of some bytes say: a record, which says a token or nothing and takes so many bytes; or one
-/// that is refused; or no record yet, as long as no more bytes come. Or memory was refused for it.
+/// What some bytes begin with: a record of `used` bytes, with or without a token; a rejected record; or no
+/// whole record yet. Or out of memory.
 #[derive(Clone, Copy, Debug, PartialEq, Eq)]
 pub(crate) enum Next {
     Record { said: Option<Token>, used: usize },
@@ -32,15 +32,14 @@ pub(crate) enum Next {
     Memory,
 }
 
-/// A token that a record says, and how many bytes that takes.
+/// The token of a record, and the record's length in bytes.
 #[derive(Clone, Copy, Debug, PartialEq, Eq)]
 pub(crate) struct Told {
     pub(crate) token: Token,
     pub(crate) used: usize,
 }
 
-/// The token of the first record of some bytes, if that is a line or a frame, is there to its end and says one. All
-/// else [`next_of`] reads.
+/// Returns the token of the first record, if that is a whole line or frame with one; see [`next_of`] for the others.
 #[inline(always)]
 pub(crate) fn told_by(layout: &Layout, sort: Sort, bytes: &[u8]) -> Option<Told>
     ensures next { IfSome result (λ told. (last : Bool) → IsNext layout.now sort bytes.now last (Next.Record (Some told.token) told.used)) }
@@ -53,7 +52,6 @@ pub(crate) fn told_by(layout: &Layout, sort: Sort, bytes: &[u8]) -> Option<Told>
     }
 }
 
-/// The token of a line.
 #[inline(always)]
 fn told_by_line(decimals: Decimals, sort: Sort, bytes: &[u8]) -> Option<Told>
     ensures next { IfSome result (λ told. (last : Bool) → IsNext (layouts.Lines decimals) sort bytes.now last (Next.Record (Some told.token) told.used)) }
@@ -65,7 +63,6 @@ fn told_by_line(decimals: Decimals, sort: Sort, bytes: &[u8]) -> Option<Told>
     }
 }
 
-/// The token of a frame.
 #[inline(always)]
 fn told_by_frame(frame: &Frame, sort: Sort, bytes: &[u8]) -> Option<Told>
     ensures next { IfSome result (λ told. (last : Bool) → IsNext (layouts.Frames frame.now) sort bytes.now last (Next.Record (Some told.token) told.used)) }
@@ -78,7 +75,6 @@ fn told_by_frame(frame: &Frame, sort: Sort, bytes: &[u8]) -> Option<Told>
     as_told(token_of_frame(frame, sort, &bytes[..size]), size)
 }
 
-/// The token that was said, if one was, of a record of so many bytes.
 #[inline(always)]
 fn as_told(said: Result<Option<Token>, RecordFault>, used: usize) -> Option<Told>
     ensures said { IfSome result (λ told. said ≡ Ok (Some told.token)) }
@@ -90,7 +86,7 @@ fn as_told(said: Result<Option<Token>, RecordFault>, used: usize) -> Option<Told
     }
 }
 
-/// What the first of these bytes say. The last record may end with them if no more bytes come.
+/// Reads the first record. If no more bytes come (`is_last`), the last record may end with the bytes.
 pub(crate) fn next_of(
     alloc: Global,
     layout: Layout,

@@ -5,14 +5,12 @@ ghost use Rattle.hox_stream.specs.Exits.{ExitAdmits, exit_name, exit_named, exit
 use kpn_compute::Computes;
 use kpn_model::{Act, Answer, Card, Kinds, Local, Signature, Sort, Token};
 
-/// The name of the kind that could read words.
 pub(crate) const WORDS_OUT: &str = "words written out";
 
-/// The name of the kind that could read flags.
 pub(crate) const FLAGS_OUT: &str = "flags written out";
 
-/// A family of two kinds that stop at once: `words written out` could read words, and `flags written out`
-/// flags. They stand at the outputs of a stream, in place of what only reads a channel there.
+/// A family of two kinds that stop at once, for words and flags. At the outputs of a stream they replace
+/// processes that only read a channel.
 pub struct Exits;
 
 impl Kinds for Exits {
@@ -63,7 +61,6 @@ impl Computes for Exits {
     }
 }
 
-/// The ports of a reader of one channel of this sort.
 fn one_input(sort: Sort) -> Signature
     ensures { result ≡ one_input sort }
 {
@@ -73,7 +70,6 @@ fn one_input(sort: Sort) -> Signature
     }
 }
 
-/// The name of the kind that could read tokens of this sort.
 pub(crate) fn exit_name(sort: Sort) -> &'static str
     ensures { result.now ≡ exit_name sort }
 {

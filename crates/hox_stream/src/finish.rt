@@ -1,4 +1,4 @@
-//! Why a stream ended.
+//! Why a stream ends.
 ghost use Rattle.std.specs.Prelude.{◌≡◌};
 ghost use Rattle.hox_stream.specs.Finishes.{status_of};
 
@@ -6,36 +6,34 @@ use crate::cutting::Refusal;
 use kpn_front::Status;
 use kpn_model::{End, Verdict};
 
-/// Why a stream ended. Sources and sinks are named by their places, counted from 0; the sinks of several channels stand
-/// behind those of one.
+/// Why a stream ended. Sources and sinks are numbered from 0; sinks of several channels follow those of one.
 #[derive(Clone, Copy, Debug, PartialEq, Eq)]
 pub enum Finish {
-    /// No process can go on, and neither a token more nor room would help; for this cause, as a run ends. It is
-    /// `Memory` if a growth was refused memory.
+    /// No process can continue, and no token or room would help. `Memory` if a growth got no memory.
     Over(End),
-    /// The next record of this source is refused. What came before it was fed.
+    /// The next record of this source is rejected. All tokens before it were fed.
     Refused(usize, Refusal),
-    /// A read of this source has failed.
+    /// A read of this source failed.
     Unread(usize),
-    /// The channel of this source has another sort than its tokens. `serve` gives each the sort of its channel, and
-    /// never ends so.
+    /// The sorts of this source and its channel differ. `serve` never ends so: it gives each source its
+    /// channel's sort.
     OtherSort(usize),
-    /// This sink could not be written.
+    /// A write to this sink failed.
     Unwritten(usize),
-    /// The next token for this sink does not fit its layout, and is not clipped. What came before it was written.
+    /// The next token for this sink does not fit its layout, and is not clipped. Those before it were written.
     Misfit(usize),
-    /// More than 1,000,000 tokens of a channel of this sink wait for those of another one. What it had was written.
+    /// More than 1,000,000 tokens of a channel of this sink wait for another channel's. All it had was written.
     Apart(usize),
-    /// A process waits for a token in an input for which there is no source.
+    /// A process waits for a token of an input without a source.
     Idle,
-    /// Memory was refused for what is read or written.
+    /// Out of memory while reading or writing.
     Memory,
-    /// 2^64 - 1 turns were made.
+    /// The stream took 2^64 - 1 turns.
     Cut,
 }
 
 impl Finish {
-    /// Returns the exit status of a program whose stream ended so, with this verdict on how it left the network.
+    /// Returns the program's exit status. `verdict` is that on the network.
     pub fn status(self, verdict: Verdict) -> Status
         ensures { result ≡ status_of self verdict }
     {

@@ -1,12 +1,12 @@
-//! The tokens of many records at once.
+//! Reads the tokens of many records at once.
 ghost use Rattle.std.specs.Prelude.{◌≡◌, ◌≤◌, length};
 ghost use Rattle.hox_stream.specs.Gathering.{Gathers};
 
 use crate::cutting::told_by;
 use kpn_tokens::{Layout, Sort, Token};
 
-/// Gathers the tokens of the first records of some bytes, so many at most, and for each where its record ends: up to a
-/// record that [`told_by`] leaves. Returns how many there are.
+/// Reads the tokens of the first records, at most `most`, and where each ends, up to one that [`told_by`]
+/// leaves. Returns their number.
 pub(crate) fn gather(
     layout: &Layout,
     sort: Sort,

@@ -18,21 +18,17 @@ use std::marker::Model;
 /// How many bytes one read takes at most.
 const PIECE: usize = 4096;
 
-/// How many bytes are held of a source at most: the longest record, and one piece more.
+/// How many bytes are held at most: the longest record, and one piece.
 const ROOM: usize = 8192;
 
-/// Why a source could not be read on: a read failed, or memory was refused.
+/// Why reading a source failed.
 #[derive(Clone, Copy, Debug, PartialEq, Eq)]
 pub(crate) enum ReadFault {
     Failed,
     Memory,
 }
 
-/// A source of tokens for a channel, which is read piece by piece. At most 8,192 bytes of it are held at any
-/// time.
-///
-/// Contracts see how tokens are laid out in it, the bytes that were read and are not yet said, whether a read has
-/// failed, and the number of records and of tokens that were taken.
+/// A source of tokens for a channel, read in pieces. It holds at most 8,192 bytes.
 #[derive(Drop)]
 pub struct Inlet<S: Source> {
     channel: usize,
@@ -60,7 +56,7 @@ impl<S: Source> Model for Inlet<S> {
 }
 
 impl<S: Source> Inlet<S> {
-    /// Makes a source of tokens of this sort for a channel. Nothing of it is read yet.
+    /// Creates a source with nothing read yet.
     pub(crate) fn new(
         alloc: Global,
         channel: usize,
@@ -90,28 +86,27 @@ impl<S: Source> Inlet<S> {
         self.channel
     }
 
-    /// Returns the sort of the tokens.
     pub(crate) fn sort(&self) -> Sort
         ensures { result ≡ self.now.sort }
     {
         self.sort
     }
 
-    /// Returns how many records were taken; `u64::MAX` if they are as many or more.
+    /// Returns the number of records taken, at most `u64::MAX`.
     pub fn records(&self) -> u64
         ensures { result ≡ self.now.records }
     {
         self.records
     }
 
-    /// Returns how many tokens were taken; `u64::MAX` if they are as many or more.
+    /// Returns the number of tokens taken, at most `u64::MAX`.
     pub fn tokens(&self) -> u64
         ensures { result ≡ self.now.tokens }
     {
         self.tokens
     }
 
-    /// Returns whether the source has come to its end. Nothing is left to read then.
+    /// Returns whether the source is at its end. Then nothing is left to read.
     pub fn is_over(&self) -> bool
         ensures is { result ≡ self.now.is_over }
         ensures at_end { self.now.is_over ≡ true → IsAtEnd self.now.remaining }
@@ -119,7 +114,7 @@ impl<S: Source> Inlet<S> {
         self.is_over
     }
 
-    /// Returns how many bytes were read of which no record was taken: 8,192 at most.
+    /// Returns how many bytes were read and not yet taken as records: at most 8,192.
     pub fn held(&self) -> usize
         ensures is { result ≡ length self.now.kept }
         ensures few { result ≤ 8192 }
@@ -127,7 +122,7 @@ impl<S: Source> Inlet<S> {
         self.held.len() - self.next
     }
 
-    /// Returns the source. What was read and is not yet said is read no more.
+    /// Returns the source. Bytes that are already read do not come again.
     pub fn source(&self) -> &S
         ensures remaining { S.remaining result.now ≡ self.now.remaining }
         ensures failed { S.has_failed result.now ≡ self.now.has_failed }
@@ -135,7 +130,6 @@ impl<S: Source> Inlet<S> {
         &self.source
     }
 
-    /// What the next record says.
     pub(crate) fn next(&self, alloc: Global) -> Next
         ensures next { IsNext self.now.layout self.now.sort self.now.kept self.now.is_over result }
         ensures at_end { self.now.is_over ≡ true → IsAtEnd self.now.remaining }
@@ -144,8 +138,7 @@ impl<S: Source> Inlet<S> {
         next_of(alloc, self.layout, self.sort, bytes, self.is_over)
     }
 
-    /// Gathers the tokens of the next records, so many at most, and for each how many bytes there are up to the end of
-    /// its record. Returns how many there are.
+    /// Reads the tokens of the next records, at most `most`, and where each ends. Returns their number.
     pub(crate) fn gather(&self, most: usize, tokens: &mut [Token], ends: &mut [usize]) -> usize
         requires tokens { most ≤ length tokens.old }
         requires ends { most ≤ length ends.old }
@@ -162,7 +155,7 @@ impl<S: Source> Inlet<S> {
         )
     }
 
-    /// Takes the next records, so many, which have so many bytes together and said a token each.
+    /// Takes the next `count` records, of `used` bytes in all, with a token each.
     pub(crate) fn pass_all(&mut self, used: usize, count: usize)
         requires { used ≤ length self.old.kept }
         ensures { self.new ≡ record self.old { kept = drop used self.old.kept; records = u64_saturate (self.old.records + count); tokens = u64_saturate (self.old.tokens + count) } }
@@ -172,7 +165,6 @@ impl<S: Source> Inlet<S> {
         self.tokens = self.tokens.saturating_add(count as u64);
     }
 
-    /// Takes the next record, of so many bytes, which said this.
     pub(crate) fn pass(&mut self, used: usize, said: Option<Token>)
         requires { used ≤ length self.old.kept }
         ensures { self.new ≡ record self.old { kept = drop used self.old.kept; records = u64_saturate (self.old.records + 1); tokens = u64_saturate (self.old.tokens + length (listed said)) } }
@@ -182,14 +174,14 @@ impl<S: Source> Inlet<S> {
         self.tokens = self.tokens.saturating_add(count_of(said));
     }
 
-    /// Returns whether the source has to be read on for its next record.
+    /// Returns whether the next record needs another read.
     pub(crate) fn wants_more(&self) -> bool
         ensures { result ≡ wants_more self.now }
     {
         !self.is_over && record_in(self.layout, &self.held[self.next..], false).is_none()
     }
 
-    /// Reads a piece more, unless there is more than a record may have. What was read before is kept.
+    /// Reads another piece, unless more bytes are held than a record may have. An error loses nothing that is held.
     pub(crate) fn refill(&mut self, alloc: Global) -> Result<(), ReadFault>
         ensures reads { ReadsOn self.old self.new }
         ensures read { self.old.is_over ≡ false → IfOk result (λ _. IsRead self.old self.new ⊎ (4096 < length self.new.kept)) }
@@ -214,7 +206,6 @@ impl<S: Source> Inlet<S> {
     }
 }
 
-/// How many tokens a record said.
 fn count_of(said: Option<Token>) -> u64
     ensures { result ≡ length (listed said) }
 {
@@ -224,7 +215,6 @@ fn count_of(said: Option<Token>) -> u64
     }
 }
 
-/// These bytes, with room for a piece more.
 fn with_room(alloc: Global, bytes: &[u8]) -> Result<Vec<u8>, AllocError>
     requires { length bytes.now ≤ 4096 }
     ensures items { IfOk result (λ v. v.items ≡ bytes.now) }
@@ -235,7 +225,6 @@ fn with_room(alloc: Global, bytes: &[u8]) -> Result<Vec<u8>, AllocError>
     Ok(held)
 }
 
-/// Appends bytes for which there is room.
 fn append(held: &mut Vec<u8>, bytes: &[u8])
     requires { vec_len held.old + length bytes.now ≤ vec_capacity held.old }
     ensures { held.new.items ≡ held.old.items ++ bytes.now }
@@ -245,7 +234,6 @@ fn append(held: &mut Vec<u8>, bytes: &[u8])
     }
 }
 
-/// Whether a source has to be read on for its next record.
 pub(crate) fn wants_more<S: Source>(inlets: &[Inlet<S>]) -> bool
     ensures { result ≡ list_any wants_more inlets.now }
 {

@@ -1,4 +1,4 @@
-//! The columns of a file of several channels.
+//! The columns of a table: a file of several channels.
 ghost use Rattle.std.specs.Prelude.{◌≡◌, ◌≤◌, ◌++◌, OnOk, false, length, not, take};
 ghost use Rattle.kpn_tokens.specs.Tables.{first_cell};
 ghost use Rattle.hox_stream.specs.Lanes.{TakesIn, new_lane};
@@ -11,8 +11,6 @@ use std::collections::VecDeque;
 use std::marker::Model;
 
 /// A column: a channel, and its tokens that wait for their rows.
-///
-/// Contracts see how it is written, what waits, and how many tokens were taken.
 #[derive(Drop)]
 pub(crate) struct Lane {
     channel: usize,
@@ -33,7 +31,6 @@ impl Model for Lane {
 }
 
 impl Lane {
-    /// Makes a column of a table for a channel. None of its tokens waits.
     pub(crate) fn new(alloc: Global, table: Table, channel: usize, decimals: Decimals) -> Lane
         ensures { result ≡ new_lane table channel decimals }
     {
@@ -48,44 +45,37 @@ impl Lane {
         }
     }
 
-    /// Returns the number of the channel.
     pub(crate) fn channel(&self) -> usize
         ensures { result ≡ self.now.head.channel }
     {
         self.channel
     }
 
-    /// Returns how many tokens were taken; `u64::MAX` if they are as many or more.
     pub(crate) fn tokens(&self) -> u64
         ensures { result ≡ self.now.tokens }
     {
         self.tokens
     }
 
-    /// Returns for how many of the tokens the nearest is written that fits; `u64::MAX` if they are as many or more.
     pub(crate) fn clipped(&self) -> u64
         ensures { result ≡ self.now.clipped }
     {
         self.clipped
     }
 
-    /// Returns how many tokens wait for their rows.
     pub(crate) fn waiting(&self) -> usize
         ensures { result ≡ length self.now.waiting }
     {
         self.waiting.len()
     }
 
-    /// Returns whether a token did not fit.
     pub(crate) fn is_misfit(&self) -> bool
         ensures { result ≡ self.now.is_misfit }
     {
         self.is_misfit
     }
 
-    /// Has tokens wait for their rows, up to the first that does not fit; none if one did not fit before.
-    ///
-    /// Errors: memory was refused. Some of them may wait.
+    /// Queues tokens for their rows, up to the first that does not fit. Errors: out of memory; some may be queued.
     pub(crate) fn take(&mut self, tokens: &[Token]) -> Result<(), AllocError>
         ensures takes { OnOk result (TakesIn self.old self.new tokens.now) }
         ensures head { self.new.head ≡ self.old.head }
@@ -101,7 +91,7 @@ impl Lane {
         Ok(())
     }
 
-    /// Takes the first token that waits, if there is one, as a cell of its row.
+    /// Takes the first queued token, if any, as a cell of its row.
     pub(crate) fn pop(&mut self) -> Cell
         ensures cell { result ≡ first_cell (column_of self.old) }
         ensures left { self.new ≡ under self.old }
@@ -113,8 +103,8 @@ impl Lane {
     }
 }
 
-/// How many tokens there are up to the first that does not fit and is not clipped, how many of them are clipped,
-/// and whether there is one that does not fit.
+/// How many tokens precede the first that does not fit and is not clipped, how many of them are clipped, and
+/// whether there is such a misfit.
 #[derive(Clone, Copy, Debug, PartialEq, Eq)]
 struct Fitting {
     tokens: usize,
@@ -122,7 +112,6 @@ struct Fitting {
     has_misfit: bool,
 }
 
-/// Which of some tokens fit a layout.
 fn fitting_of(layout: Layout, tokens: &[Token]) -> Fitting
     ensures tokens { take result.tokens tokens.now ≡ written_of layout false tokens.now }
     ensures count { result.tokens ≡ length (written_of layout false tokens.now) }
@@ -144,7 +133,6 @@ fn fitting_of(layout: Layout, tokens: &[Token]) -> Fitting
     }
 }
 
-/// Appends tokens to those that wait.
 fn have_wait(waiting: &mut VecDeque<Token>, tokens: &[Token]) -> Result<(), AllocError>
     ensures { OnOk result (waiting.new.items ≡ waiting.old.items ++ tokens.now) }
 {

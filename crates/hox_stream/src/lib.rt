@@ -1,5 +1,4 @@
-//! A network between sources and sinks of tokens, laid out in lines, columns or frames, in bounded memory: from the
-//! sketch of a description and the names of channels to what is written, and why it ended.
+//! Runs a network between sources and sinks of tokens, in lines, columns or frames, in bounded memory.
 #![tactic(auto)]
 
 mod cutting;

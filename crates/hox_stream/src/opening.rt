@@ -12,11 +12,8 @@ use kpn_model::{Kinds, Listed, Text};
 use kpn_net::{ChannelSketch, Check, Net, NetFault, ProcessSketch, Sketch};
 use std::alloc::{AllocError, Global};
 
-/// Makes the network of a stream: that of the sketch of a description in which each process that only reads a
-/// channel of one of these names stops at once, so that the channel may be an output of a flow: it is of a
-/// kind of [`Exits`]. All else stays.
-///
-/// Errors: the fault that this sketch has, or `Memory`.
+/// Makes the network of a sketch in which each process that only reads a channel of one of these names is one of
+/// [`Exits`], so that the channel may be an output of a flow. Errors: the fault of that sketch, or `Memory`.
 pub(crate) fn net_with_exits<K: Kinds>(
     alloc: Global,
     sketch: Sketch,
@@ -31,7 +28,6 @@ pub(crate) fn net_with_exits<K: Kinds>(
     }
 }
 
-/// The sketch in which each process that only reads a channel of one of these names stops at once.
 fn with_exits(alloc: Global, sketch: Sketch, names: &[Text]) -> Result<Sketch, AllocError>
     ensures { IfOk result (λ r. r ≡ with_exits names.now sketch) }
 {
@@ -52,7 +48,6 @@ fn with_exits(alloc: Global, sketch: Sketch, names: &[Text]) -> Result<Sketch, A
     })
 }
 
-/// The processes, of which those stop at once that only read a channel of one of these names.
 fn all_exited(
     alloc: Global,
     processes: Vec<ProcessSketch>,
@@ -68,7 +63,7 @@ fn all_exited(
     Ok(all)
 }
 
-/// A process, which stops at once if it only reads a channel of one of these names.
+/// Makes a process stop at once if it only reads a channel of one of these names.
 fn exited(
     alloc: Global,
     process: ProcessSketch,
@@ -91,21 +86,18 @@ fn exited(
     })
 }
 
-/// Whether processes of a kind only read one channel.
 fn is_reader(kind: &str) -> bool
     ensures { result ≡ is_reader kind.now }
 {
     kind == "sink" || kind == "drain" || kind == "drain_flags"
 }
 
-/// Whether a name is one of these.
 fn is_one_of(names: &[Text], name: &str) -> bool
     ensures { result ≡ is_one_of names.now name.now }
 {
     names.iter().any(|other| other.as_str() == name)
 }
 
-/// The channel of one of these names that leads to a process of this name.
 fn channel_to<'a>(
     channels: &'a [ChannelSketch],
     names: &[Text],

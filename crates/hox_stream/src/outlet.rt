@@ -14,11 +14,11 @@ use std::marker::Model;
 /// How many bytes wait at most.
 const PIECE: usize = 4096;
 
-/// How many bytes there is room for at once: those that wait, and the records of the tokens that are drained at once.
+/// The room at first, in bytes: those that wait, and the records of one batch of tokens.
 const ROOM: usize = 8192;
 
-/// Why tokens were not written: a write failed, of which some bytes may have been written; a token does not fit the
-/// layout, and those before it were written, or wait; or memory was refused.
+/// Why tokens were not written: a write failed, after some bytes or none; a token does not fit the layout,
+/// and those before it are written or wait; or out of memory.
 #[derive(Clone, Copy, Debug, PartialEq, Eq)]
 pub(crate) enum WriteFault {
     Failed,
@@ -26,10 +26,8 @@ pub(crate) enum WriteFault {
     Memory,
 }
 
-/// A sink for the tokens of a channel. Records wait until there are more than 4,096 bytes of them, or until they are
-/// flushed.
-///
-/// Contracts see how tokens are laid out in it, and what was written with what waits.
+/// A sink for the tokens of a channel. Records wait until they have more than 4,096 bytes, or are flushed.
+/// Contracts see the layout, and what is written together with what waits.
 #[derive(Drop)]
 pub struct Outlet<S: Sink> {
     channel: usize,
@@ -40,7 +38,7 @@ pub struct Outlet<S: Sink> {
     is_misfit: bool,
     tokens: u64,
     clipped: u64,
-    /// How many of the tokens were written when nothing waited last.
+    /// The number of tokens written when nothing waited last.
     flushed: u64,
 }
 
@@ -58,9 +56,7 @@ impl<S: Sink> Model for Outlet<S> {
 }
 
 impl<S: Sink + Drop> Outlet<S> {
-    /// Makes a sink for the tokens of a channel, with room for the records that wait. Nothing is written yet.
-    ///
-    /// Errors: memory was refused.
+    /// Creates a sink with nothing written yet. Errors: out of memory.
     pub(crate) fn new(
         alloc: Global,
         channel: usize,
@@ -92,22 +88,23 @@ impl<S: Sink> Outlet<S> {
         self.channel
     }
 
-    /// Returns how many tokens were written, or wait to be; `u64::MAX` if they are as many or more. After a write
-    /// that has failed, those that were written before it.
+    /// Returns how many tokens are written or wait, at most `u64::MAX`; after a failed write, only those
+    /// written before.
     pub fn tokens(&self) -> u64
         ensures { result ≡ self.now.tokens }
     {
         self.tokens
     }
 
-    /// Returns for how many of the tokens the nearest was written that fits; `u64::MAX` if they are as many or more.
+    /// Returns how many tokens were clipped to the nearest value that fits, at most `u64::MAX`. After a
+    /// failed write, some of them may be lost.
     pub fn clipped(&self) -> u64
         ensures { result ≡ self.now.clipped }
     {
         self.clipped
     }
 
-    /// Returns how many bytes wait to be written: 4,096 at most.
+    /// Returns how many bytes wait to be written: at most 4,096.
     pub fn waiting(&self) -> usize
         ensures is { result ≡ length self.now.waiting }
         ensures few { result ≤ 4096 }
@@ -115,21 +112,21 @@ impl<S: Sink> Outlet<S> {
         self.waiting.len()
     }
 
-    /// Returns whether a write has failed, or memory was refused for one.
+    /// Returns whether a write failed, or ran out of memory.
     pub fn has_failed(&self) -> bool
         ensures { result ≡ self.now.has_failed }
     {
         self.has_failed
     }
 
-    /// Lends the sink, to which what waits is not yet written.
+    /// Returns the sink. It lacks the bytes that wait.
     pub fn sink(&self) -> &S
         ensures { append_known (S.seen result.now).contents self.now.waiting ≡ self.now.contents }
     {
         &self.sink
     }
 
-    /// Returns the sink. What waits is not written to it.
+    /// Returns the sink. It lacks the bytes that wait.
     pub fn into_sink(self) -> S
         ensures { append_known (S.seen result).contents self.waiting ≡ self.contents }
     {
@@ -137,8 +134,8 @@ impl<S: Sink> Outlet<S> {
         sink
     }
 
-    /// Has tokens wait, each as a record, and writes what waits if that is more than 4,096 bytes. If it fails, some of
-    /// them may have been written; once it has failed, no more tokens are taken.
+    /// Appends the records of tokens to what waits, and writes that if it has more than 4,096 bytes. If it
+    /// fails, some may have been written, and it takes no more tokens.
     pub(crate) fn write(&mut self, tokens: &[Token]) -> Result<(), WriteFault>
         ensures writes { Writes self.old self.new tokens.now }
         ensures fault { IfErr result (IsWriteFault self.new) }
@@ -166,7 +163,6 @@ impl<S: Sink> Outlet<S> {
         self.end_of_write()
     }
 
-    /// What a write comes to that has not failed.
     fn end_of_write(&self) -> Result<(), WriteFault>
         ensures { IfErr result (IsWriteFault self.now) }
     {
@@ -177,7 +173,7 @@ impl<S: Sink> Outlet<S> {
         }
     }
 
-    /// Writes what waits, unless a write has failed. If it fails, some of it may have been written.
+    /// Writes what waits, unless a write has failed before. If it fails, some bytes may have been written.
     pub(crate) fn flush(&mut self) -> Result<(), WriteFault>
         ensures writes { Writes self.old self.new [] }
         ensures written { self.new.has_failed ≡ false → self.new.waiting ≡ [] }
@@ -194,7 +190,6 @@ impl<S: Sink> Outlet<S> {
         Ok(())
     }
 
-    /// Remembers that a write has failed, and returns why.
     fn fail(&mut self, fault: WriteFault) -> Result<(), WriteFault>
         ensures failed { self.new ≡ record self.old { has_failed = true; tokens = self.new.tokens } }
         ensures fault { result ≡ Err fault }
@@ -205,8 +200,7 @@ impl<S: Sink> Outlet<S> {
     }
 }
 
-/// How many tokens have their records, for how many of these the nearest was written that fits, and whether the next
-/// one does not fit.
+/// How many tokens have their records, how many of these are clipped, and whether the next one is a misfit.
 #[derive(Clone, Copy, Debug, PartialEq, Eq)]
 struct Appended {
     written: usize,
@@ -214,9 +208,7 @@ struct Appended {
     is_misfit: bool,
 }
 
-/// Appends tokens, each as a record, up to the first that does not fit.
-///
-/// Errors: memory was refused.
+/// Appends the records of tokens, up to the first misfit. Errors: out of memory.
 fn append_to(
     waiting: &mut Vec<u8>,
     layout: Layout,
@@ -242,7 +234,7 @@ fn append_to(
     }
 }
 
-/// Writes what waits. Nothing waits any more then, even if the write fails.
+/// Writes what waits. Afterwards nothing waits, even if the write fails.
 pub(crate) fn write_out<S: Sink>(sink: &mut S, waiting: &mut Vec<u8>) -> Result<(), WriteFault>
     ensures written { OnOk result (Appends (S.seen sink.old).contents (S.seen sink.new).contents waiting.old.items) }
     ensures none { waiting.new.items ≡ [] }

@@ -1,4 +1,4 @@
-//! The sinks of a stream at their channels.
+//! Places the sinks of a stream at their channels.
 ghost use Rattle.std.specs.Prelude.{◌≡◌, IfOk, drop};
 ghost use Rattle.hox_stream.specs.Serves.{new_lanes, new_outlets, new_outs, new_tables};
 
@@ -11,7 +11,7 @@ use kpn_front::Sink;
 use kpn_tokens::{Decimals, Table};
 use std::alloc::{AllocError, Global};
 
-/// The sinks, each for the channel at its place, and behind them the tables.
+/// Places the sinks and then the tables, each at the next channels.
 pub(crate) fn outs_of<S: Sink + Drop>(
     alloc: Global,
     channels: &[usize],
@@ -26,7 +26,6 @@ pub(crate) fn outs_of<S: Sink + Drop>(
     Ok(Outs { sinks, tables })
 }
 
-/// The channels behind the first, so many.
 fn behind(channels: &[usize], count: usize) -> &[usize]
     ensures { result.now ≡ drop count channels.now }
 {
@@ -37,7 +36,6 @@ fn behind(channels: &[usize], count: usize) -> &[usize]
     }
 }
 
-/// The sinks, each for the channel at its place.
 fn outlets_of<S: Sink + Drop>(
     alloc: Global,
     channels: &[usize],
@@ -58,7 +56,6 @@ fn outlets_of<S: Sink + Drop>(
     Ok(outlets)
 }
 
-/// The tables, each for the channels at its places.
 fn tables_of<S: Sink + Drop>(
     alloc: Global,
     channels: &[usize],
@@ -83,7 +80,6 @@ fn tables_of<S: Sink + Drop>(
     Ok(outlets)
 }
 
-/// The columns of a table, each for the channel at its place.
 fn lanes_of(
     alloc: Global,
     table: Table,

@@ -1,4 +1,4 @@
-//! From a source into its channel.
+//! Moves tokens from a source into its channel.
 ghost use Rattle.std.specs.Prelude.{◌≡◌, ◌≢◌, ◌<◌, true, false, [], Err, IsTrue, IfOk, IfSome, IfNone, ◌≤◌, ℕ, List, length, map};
 ghost use Rattle.std.specs.Io.KnownBytes.{IsAtEnd};
 ghost use Rattle.kpn_model.specs.Network.{channel_of};
@@ -26,7 +26,7 @@ use kpn_model::{Kinds, Token};
 use kpn_net::Net;
 use std::alloc::Global;
 
-/// Feeds what a record said, if there is room, and returns whether that was done.
+/// Feeds the token of a record, if it has one. Returns false if it can't be fed.
 fn feed_said<B: Body>(flow: &mut Flow<B>, channel: usize, said: Option<Token>) -> bool
     ensures same { IsSameFlow flow.old flow.new }
     ensures flows { IsTrue result → Flows (family B.Kinds.Kinds) flow.old.network flow.old.state (map (λ token. Fed channel token) (listed said)) flow.new.state }
@@ -40,8 +40,7 @@ fn feed_said<B: Body>(flow: &mut Flow<B>, channel: usize, said: Option<Token>) -
     }
 }
 
-/// Takes the next record of a source, which says this and has so many bytes, and feeds its token, if there is room.
-/// Returns whether that was done.
+/// Takes the next record and feeds its token, if there is room. Returns whether it did.
 fn take_said<B: Body, S: Source>(
     flow: &mut Flow<B>,
     inlet: &mut Inlet<S>,
@@ -60,8 +59,8 @@ fn take_said<B: Body, S: Source>(
     true
 }
 
-/// Takes the next record of a source and feeds its token, if there is room and a record. Returns whether that was
-/// done. Where there is no room, no record is read.
+/// Takes the next record and feeds its token, if there are room and a record. Returns whether it did. Without
+/// room it reads no record.
 fn take_record<B: Body, S: Source>(alloc: Global, flow: &mut Flow<B>, inlet: &mut Inlet<S>) -> bool
     ensures pours { Pours (family B.Kinds.Kinds) flow.old flow.new inlet.old inlet.new }
     ensures unread { IsNotRead inlet.old inlet.new }
@@ -75,8 +74,6 @@ fn take_record<B: Body, S: Source>(alloc: Global, flow: &mut Flow<B>, inlet: &mu
     take_said(flow, inlet, said, used)
 }
 
-/// Takes the next record of a source, which says this and has so many bytes, and then one after another, as long as
-/// there are room and records.
 fn take_records<B: Body, S: Source>(
     alloc: Global,
     flow: &mut Flow<B>,
@@ -95,7 +92,7 @@ fn take_records<B: Body, S: Source>(
     take_more(alloc, flow, inlet);
 }
 
-/// Takes one record after another of a source and feeds their tokens, as long as there are room and records.
+/// Takes records and feeds their tokens, while there are room and records.
 fn take_more<B: Body, S: Source>(alloc: Global, flow: &mut Flow<B>, inlet: &mut Inlet<S>)
     ensures pours { Pours (family B.Kinds.Kinds) flow.old flow.new inlet.old inlet.new }
     ensures unread { IsNotRead inlet.old inlet.new }
@@ -110,8 +107,7 @@ fn take_more<B: Body, S: Source>(alloc: Global, flow: &mut Flow<B>, inlet: &mut 
     }
 }
 
-/// Takes the next records of a source, so many at most if they say a token each, and else one. Returns how many were
-/// taken; none where there is no room or no record.
+/// Takes the next records: at most `most` if they have a token each, else one. Returns how many it took.
 fn take_some<B: Body, S: Source>(
     alloc: Global,
     flow: &mut Flow<B>,
@@ -131,7 +127,7 @@ fn take_some<B: Body, S: Source>(
     usize::from(take_record(alloc, flow, inlet))
 }
 
-/// How many tokens a channel has room for at first; one if there is no such channel.
+/// Returns the starting capacity of a channel; 1 if there is no such channel.
 fn capacity_of<K: Kinds>(net: &Net<K>, channel: usize) -> usize {
     if channel < net.channels() {
         net.capacity(channel)
@@ -143,8 +139,7 @@ fn capacity_of<K: Kinds>(net: &Net<K>, channel: usize) -> usize {
 /// How many tokens are fed at once at most.
 const BATCH: usize = 64;
 
-/// Takes the next records of a source, so many at most, that say a token each, and feeds as many of these as there is
-/// room for. Returns how many records were taken.
+/// Takes the next records that have a token each, at most `most`, while there is room. Returns how many it took.
 fn take_batch<B: Body, S: Source>(flow: &mut Flow<B>, inlet: &mut Inlet<S>, most: usize) -> usize
     ensures pours { Pours (family B.Kinds.Kinds) flow.old flow.new inlet.old inlet.new }
     ensures unread { IsNotRead inlet.old inlet.new }
@@ -165,7 +160,6 @@ fn take_batch<B: Body, S: Source>(flow: &mut Flow<B>, inlet: &mut Inlet<S>, most
     fed
 }
 
-/// Where the first records end, so many.
 fn end_of(ends: &[usize], count: usize) -> usize
     requires { count ≤ length ends.now }
     ensures { result ≡ end_of ends.now count }
@@ -182,8 +176,8 @@ pub(crate) enum PourFault {
     Memory,
 }
 
-/// Feeds records of a source for which there is room; if there is no record yet, first reads on; and if no more
-/// comes, has the input end.
+/// Feeds the records of a source for which there is room. If there is no record yet, first reads more; at the
+/// end of the source, ends the input.
 fn pour<B: Body, S: Source>(
     alloc: Global,
     flow: &mut Flow<B>,
@@ -222,7 +216,6 @@ fn pour<B: Body, S: Source>(
     }
 }
 
-/// Reads a source on.
 fn read_on<S: Source>(alloc: Global, inlet: &mut Inlet<S>) -> Result<(), PourFault>
     requires unended { inlet.old.is_over ≡ false }
     requires few { length inlet.old.kept ≤ 4096 }
@@ -239,7 +232,7 @@ fn read_on<S: Source>(alloc: Global, inlet: &mut Inlet<S>) -> Result<(), PourFau
     }
 }
 
-/// Pours ([`pour`]) the source at place `k`. Returns why the stream ends, if it does.
+/// Pours ([`pour`]) source `k`. Returns why the stream ends, if it does.
 fn pour_at<B: Body, S: Source>(
     alloc: Global,
     flow: &mut Flow<B>,
@@ -263,7 +256,6 @@ fn pour_at<B: Body, S: Source>(
     }
 }
 
-/// Whether a process waits for a token of a source.
 fn is_waited_for<B: Body, S: Source>(flow: &Flow<B>, inlet: &Inlet<S>) -> bool
     ensures { result ≡ is_waited_for flow.now inlet.now }
 {
@@ -271,7 +263,6 @@ fn is_waited_for<B: Body, S: Source>(flow: &Flow<B>, inlet: &Inlet<S>) -> bool
     flow.is_input(channel) && flow.is_starved(channel)
 }
 
-/// The first source, from this place on, for whose tokens a process waits.
 fn first_starved<B: Body, S: Source>(
     flow: &Flow<B>,
     inlets: &[Inlet<S>],
@@ -291,8 +282,7 @@ fn first_starved<B: Body, S: Source>(
     None
 }
 
-/// The source whose turn it is of those for whose tokens a process waits: the first from this place on, or else the
-/// first of all.
+/// Returns the first source from `from` on that a process waits for, or else the first of all.
 fn next_starved<B: Body, S: Source>(
     flow: &Flow<B>,
     inlets: &[Inlet<S>],
@@ -307,8 +297,7 @@ fn next_starved<B: Body, S: Source>(
     }
 }
 
-/// Pours the next source for whose tokens a process waits, each in its turn. Returns why the stream ends, if it
-/// does.
+/// Pours the next source that a process waits for. Returns why the stream ends, if it does.
 pub(crate) fn pour_next<B: Body, S: Source>(
     alloc: Global,
     flow: &mut Flow<B>,

@@ -1,4 +1,4 @@
-//! The rows of a file of several channels.
+//! The rows of a table.
 ghost use Rattle.std.specs.Prelude.{◌≡◌, ◌∷◌, ◌++◌, OnOk, map};
 ghost use Rattle.kpn_tokens.specs.Tables.{first_cell, longest, row_text};
 ghost use Rattle.hox_stream.specs.Tables.{columns_of, heads_of, shortest, under};
@@ -7,7 +7,7 @@ use crate::lane::Lane;
 use kpn_tokens::{Cell, Table, append_row};
 use std::alloc::AllocError;
 
-/// How many rows have a token of each column.
+/// Returns how many rows have a token in each column.
 pub(crate) fn shortest(lanes: &[Lane]) -> usize
     ensures { result ≡ shortest lanes.now }
 {
@@ -17,7 +17,6 @@ pub(crate) fn shortest(lanes: &[Lane]) -> usize
     }
 }
 
-/// How many tokens the shortest has of a first column and others.
 fn shortest_of(first: &Lane, others: &[Lane]) -> usize
     ensures { result ≡ shortest (first.now ∷ others.now) }
 {
@@ -28,7 +27,7 @@ fn shortest_of(first: &Lane, others: &[Lane]) -> usize
     count
 }
 
-/// How many rows have a token of any column.
+/// Returns how many rows have a token in any column.
 pub(crate) fn longest(lanes: &[Lane]) -> usize
     ensures { result ≡ longest (columns_of lanes.now) }
 {
@@ -42,9 +41,8 @@ pub(crate) fn longest(lanes: &[Lane]) -> usize
     count
 }
 
-/// Appends the next row: the first token that waits in each column.
-///
-/// Errors: memory was refused. Some of its tokens may wait no more.
+/// Appends the next row: the first waiting token of each column. Errors: out of memory. Some tokens of the
+/// row may be lost.
 pub(crate) fn append_next(
     lanes: &mut [Lane],
     row: &mut Vec<Cell>,
@@ -59,7 +57,6 @@ pub(crate) fn append_next(
     append_row(waiting, table, row.as_slice())
 }
 
-/// Takes the first token that waits in each column, as the cells of a row.
 fn next_row(lanes: &mut [Lane], row: &mut Vec<Cell>) -> Result<(), AllocError>
     ensures row { OnOk result (row.new.items ≡ map first_cell (columns_of lanes.old)) }
     ensures lanes { OnOk result (lanes.new ≡ map under lanes.old) }

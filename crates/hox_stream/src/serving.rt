@@ -1,4 +1,4 @@
-//! A stream from its start to its end.
+//! Runs a stream from its start to its end.
 ghost use Rattle.std.specs.Prelude.{◌≡◌, IfOk};
 ghost use Rattle.kpn_model.specs.Network.{channel_of};
 ghost use Rattle.kpn_model.specs.Families.{family};
@@ -21,15 +21,14 @@ use kpn_net::Net;
 use kpn_tokens::{Decimals, Layout, Table};
 use std::alloc::{AllocError, Global};
 
-/// A source or a sink, and how tokens are laid out in it.
+/// A source or a sink, and the layout of its tokens.
 #[derive(Drop)]
 pub struct LaidOut<S> {
     pub stream: S,
     pub layout: Layout,
 }
 
-/// A sink for several channels, how they stand side by side in it, and for each how a word of it is written (where
-/// rows are samples that says nothing).
+/// A sink for several channels: their arrangement, and how each column's words are written (ignored for samples).
 #[derive(Drop)]
 pub struct LaidTable<S> {
     pub stream: S,
@@ -37,8 +36,7 @@ pub struct LaidTable<S> {
     pub columns: Vec<Decimals>,
 }
 
-/// What is left of a stream that ended: its flow, what is left of its sources and its sinks, in order, and why it
-/// ended.
+/// What is left of a stream that ended: its flow, sources and sinks, in order, and why it ended.
 #[derive(Drop)]
 pub struct Served<F: Computes, I: Source, O: Sink> {
     pub flow: Flow<CardBody<F>>,
@@ -48,24 +46,20 @@ pub struct Served<F: Computes, I: Source, O: Sink> {
     pub finish: Finish,
 }
 
-/// Runs a stream from its start until it has come to its end. The first source is for the first of the channels
-/// that are fed, and so on, and the first sink for the first of those that are drained, behind those of all sinks the
-/// first column of the first table, and so on; those beyond are let go. What came out is written before a source is
-/// read on, and at the end; and a source is read only where a process waits for its tokens. In a table a token waits
-/// until its row has one of each column. At the end the rest is written, with no token where a column is shorter.
+/// Runs a stream until it ends. The sources belong to the channels that are fed, in order; the sinks, and
+/// then the columns of the tables, to those that are drained. Superfluous ones are dropped. A source is read
+/// only when a process waits for its tokens, after all output is written. In a table a token waits until its
+/// row has one in each column; at the end the remaining rows are written, with gaps.
 ///
-/// What was fed into the channel of each source is what the records say that were read of it, and what was drained
-/// of the channel of each sink is what was written to it, each token as a record, up to one that does not fit the
-/// layout; of the channels of a table it is what stands in the columns of the rows that were written. So what is
-/// written begins the stream of
-/// every run of the network into whose inputs the same comes (Kahn 1974), and the pieces in which it was read don't
-/// matter (docs/endless.md).
+/// The tokens fed into a channel are those of the records read from its source. The tokens drained from a
+/// channel are written to its sink, each as a record, or to its column, up to one that does not fit the
+/// layout. So the output is a prefix of the streams of every run of the network on the same input (Kahn
+/// 1974), and the sizes of the pieces that are read don't matter (docs/endless.md).
 ///
-/// Memory is taken for what is held of a source, at most 8,192 bytes, for what waits to be written to a sink, at most
-/// 4,096 bytes and the records of 64 tokens or a row, for the tokens of a table that wait for their rows, at most
-/// 1,000,064 of each channel, and for growths.
+/// Memory: at most 8,192 bytes for each source; for each sink, 4,096 bytes and the records of 64 tokens or a
+/// row; for each channel of a table, at most 1,000,064 tokens that wait for their rows; and the growths.
 ///
-/// Errors: memory was refused before anything was read or written.
+/// Errors: out of memory, before anything is read or written.
 pub fn serve<F: Computes, I: Source + Drop, O: Sink + Drop>(
     alloc: Global,
     opened: OpenStream<F>,
@@ -95,14 +89,12 @@ pub fn serve<F: Computes, I: Source + Drop, O: Sink + Drop>(
     })
 }
 
-/// The sources and the sinks of a stream, each for its channel.
 #[derive(Drop)]
 struct Ports<I: Source, O: Sink> {
     inlets: Vec<Inlet<I>>,
     outs: Outs<O>,
 }
 
-/// The sources and the sinks of a stream at its start.
 fn ports_of<F: Computes, I: Source + Drop, O: Sink + Drop>(
     alloc: Global,
     opened: &OpenStream<F>,
@@ -120,7 +112,6 @@ fn ports_of<F: Computes, I: Source + Drop, O: Sink + Drop>(
     })
 }
 
-/// The sources, each for the channel at its place.
 fn inlets_of<K: Kinds, S: Source + Drop>(
     alloc: Global,
     net: &Net<K>,
@@ -141,7 +132,6 @@ fn inlets_of<K: Kinds, S: Source + Drop>(
     Ok(inlets)
 }
 
-/// A source for a channel, whose sort its tokens have.
 fn inlet_for<K: Kinds, S: Source>(
     alloc: Global,
     net: &Net<K>,
@@ -154,7 +144,7 @@ fn inlet_for<K: Kinds, S: Source>(
     Inlet::new(alloc, channel, source.layout, sort, source.stream)
 }
 
-/// The sort of a channel; words if there is no such channel.
+/// Returns the sort of a channel; words if there is no such channel.
 pub(crate) fn sort_of<K: Kinds>(net: &Net<K>, channel: usize) -> Sort
     ensures { result ≡ (channel_of net.now channel).sort }
 {

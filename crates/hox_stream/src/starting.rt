@@ -1,4 +1,4 @@
-//! The start of a stream.
+//! Opens a stream.
 ghost use Rattle.std.specs.Prelude.{◌≡◌, ◌<◌, ◌⊎◌, false, [], Some, IfOk, IfErr, IfSome, length, map, get_or};
 ghost use Rattle.std.specs.List.{list_any};
 ghost use Rattle.kpn_compute.specs.Both.{both_family, both_named, both_ports};
@@ -19,22 +19,22 @@ use kpn_net::{Net, NetFault, Sketch};
 use std::alloc::{AllocError, Global};
 use std::marker::Model;
 
-/// Which way tokens go at an end of a stream.
+/// The direction of tokens at an end of a stream.
 #[derive(Clone, Copy, Debug, PartialEq, Eq)]
 pub(crate) enum Way {
     In,
     Out,
 }
 
-/// Why a channel can't be fed, or drained, whose name stands at a place, counted from 0.
+/// Why the channel of a name can't be fed or drained. Names are numbered from 0.
 #[derive(Drop)]
 pub enum NameFault {
     /// No channel has the name.
     NoChannel(usize),
-    /// The process at the outer end of the channel, which has this name, does more than to stop: the writer of a
-    /// channel that is to be fed, or the reader of one that is to be drained.
+    /// The process at the outer end of the channel does more than stop: the writer of one to be fed, the
+    /// reader of one to be drained. Its name follows.
     Busy(usize, Text),
-    /// Memory was refused.
+    /// Out of memory.
     Memory,
 }
 
@@ -49,11 +49,11 @@ pub enum StreamFault {
     Output(NameFault),
     /// A channel is named twice.
     Twice,
-    /// Memory was refused.
+    /// Out of memory.
     Memory,
 }
 
-/// A stream at its start: a flow, and which of its channels are fed and drained, in order. Contracts see the flow.
+/// A stream at its start: a flow, and its channels that are fed and drained. Contracts see the flow.
 #[derive(Drop)]
 pub struct OpenStream<F: Computes> {
     pub(crate) flow: Flow<CardBody<F>>,
@@ -74,8 +74,7 @@ impl<F: Computes> Model for OpenStream<F> {
 }
 
 impl<F: Computes> OpenStream<F> {
-    /// Returns the flow, and the numbers of the channels that are fed and of those that are drained, in the order of
-    /// their names.
+    /// Returns the flow, and the numbers of the channels that are fed and that are drained, in order of names.
     pub fn into_parts(self) -> (Flow<CardBody<F>>, Vec<usize>, Vec<usize>)
         ensures flow { result.0 ≡ self }
         ensures inputs { result.1.items ≡ self.inputs }
@@ -90,12 +89,11 @@ impl<F: Computes> OpenStream<F> {
     }
 }
 
-/// Opens the stream of the network that a sketch describes, at its start, from the names of the channels that will
-/// be fed and of those that will be drained. What only reads a channel that is drained stops at once, as
-/// [`Exits`] do.
+/// Opens a stream of a sketch's network, at its start, which feeds and drains the channels of these names.
+/// Processes that only read a drained channel stop at once, as [`Exits`] do.
 ///
-/// Errors: the fault that the sketch then has; the first name whose channel can't be fed, and then the first whose
-/// channel can't be drained; a channel that is named twice; or memory was refused.
+/// Errors: the fault of the changed sketch; the first name of a channel that can't be fed, then of one that
+/// can't be drained; a channel named twice; or out of memory.
 pub fn open_stream<K: Computes>(
     alloc: Global,
     sketch: Sketch,
@@ -111,7 +109,6 @@ pub fn open_stream<K: Computes>(
     }
 }
 
-/// The stream of a network, at its start.
 fn open_net<F: Computes>(
     alloc: Global,
     net: Net<F>,
@@ -135,7 +132,6 @@ fn open_net<F: Computes>(
     start(alloc, net, bodies, inputs, outputs)
 }
 
-/// The stream of a network at its start, with these inputs and outputs.
 fn start<F: Computes>(
     alloc: Global,
     net: Net<F>,
@@ -163,7 +159,6 @@ fn start<F: Computes>(
     }
 }
 
-/// The flow of a network at its start, from these inputs to these outputs.
 fn flow_between<F: Computes>(
     alloc: Global,
     net: Net<F>,
@@ -186,7 +181,6 @@ fn flow_between<F: Computes>(
     }
 }
 
-/// Why a stream is not opened whose flow has this fault.
 fn fault_of(fault: FlowFault) -> StreamFault
     requires { (fault ≡ FlowFault.Twice) ⊎ (fault ≡ FlowFault.Memory) }
     ensures twice { fault ≡ FlowFault.Twice → result ≡ StreamFault.Twice }
@@ -199,7 +193,6 @@ fn fault_of(fault: FlowFault) -> StreamFault
     }
 }
 
-/// The channels of these names, in order, if each may be fed, or drained.
 fn channels_at<B: Body>(
     alloc: Global,
     net: &Net<B::Kinds>,
@@ -223,7 +216,6 @@ fn channels_at<B: Body>(
     Ok(channels)
 }
 
-/// The channel of the name at place `k`, if it may be fed, or drained.
 fn channel_at<B: Body>(
     alloc: Global,
     net: &Net<B::Kinds>,
@@ -252,7 +244,7 @@ fn channel_at<B: Body>(
     }
 }
 
-/// The process at the outer end of a channel that is fed, or drained: its writer, or its reader.
+/// Returns the writer of a channel to be fed, or the reader of one to be drained.
 fn outer_process<K: Kinds>(net: &Net<K>, way: Way, channel: usize) -> usize
     requires { channel < length net.now.channels }
     ensures is { result ≡ outer_process way (channel_of net.now channel) }
@@ -266,7 +258,6 @@ fn outer_process<K: Kinds>(net: &Net<K>, way: Way, channel: usize) -> usize
     }
 }
 
-/// The name of a process.
 fn name_of<K: Kinds>(alloc: Global, net: &Net<K>, process: usize) -> Result<Text, AllocError>
     requires { process < length net.now.processes }
     ensures { IfOk result (IsNameOf net.now process) }

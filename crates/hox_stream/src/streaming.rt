@@ -1,4 +1,4 @@
-//! A flow between sources and sinks.
+//! Runs a flow between sources and sinks.
 ghost use Rattle.std.specs.Prelude.{IfNone, IfSome, List};
 ghost use Rattle.kpn_model.specs.Families.{family};
 ghost use Rattle.kpn_flow.specs.Pieces.{IsOneRunInPieces};
@@ -15,11 +15,10 @@ use kpn_flow::{Flow, Pause};
 use kpn_front::{Sink, Source};
 use std::alloc::Global;
 
-/// How many entries are made at most before what came out is written.
+/// How many entries a turn makes at most before it writes the output.
 const STRETCH: u64 = 1000000;
 
-/// Runs a flow between sources and sinks, until it has come to its end, writes what is left, and returns why it
-/// ended, as [`crate::serve`] does from the start of a network.
+/// Runs a flow until it ends, writes the rest, and returns why it ended (see [`crate::serve`]).
 pub(crate) fn stream_out<B: Body, I: Source, O: Sink>(
     alloc: Global,
     flow: &mut Flow<B>,
@@ -35,7 +34,6 @@ pub(crate) fn stream_out<B: Body, I: Source, O: Sink>(
     }
 }
 
-/// Runs a stream until it has come to its end, without the rows that are not full.
 fn stream<B: Body, I: Source, O: Sink>(
     alloc: Global,
     flow: &mut Flow<B>,
@@ -55,7 +53,6 @@ fn stream<B: Body, I: Source, O: Sink>(
     }
 }
 
-/// Turn after turn.
 fn turn_on<B: Body, I: Source, O: Sink>(
     alloc: Global,
     flow: &mut Flow<B>,
@@ -74,8 +71,8 @@ fn turn_on<B: Body, I: Source, O: Sink>(
     Finish::Cut
 }
 
-/// Goes on as far as the flow can, and writes what came out. If nothing did, reads what is waited for, from the
-/// source at place `next` on. Returns why the stream ends, if it does.
+/// Advances the flow as far as it can, and writes its output. If there is none, reads a source that a process
+/// waits for, from source `next` on. Returns why the stream ends, if it does.
 fn turn<B: Body, I: Source, O: Sink>(
     alloc: Global,
     flow: &mut Flow<B>,
@@ -101,8 +98,8 @@ fn turn<B: Body, I: Source, O: Sink>(
     }
 }
 
-/// Reads what is waited for, from the source at place `next` on; first writes what came out, if a source may
-/// have to be read on. Returns why the stream ends, if it does.
+/// Reads a source that a process waits for, from source `next` on, after it has written all output if a
+/// source may need a read. Returns why the stream ends, if it does.
 fn pour<B: Body, I: Source, O: Sink>(
     alloc: Global,
     flow: &mut Flow<B>,

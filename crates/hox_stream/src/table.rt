@@ -15,15 +15,14 @@ use std::marker::Model;
 /// How many bytes wait at most.
 const PIECE: usize = 4096;
 
-/// How many bytes there is room for at first: those that wait, and a row.
+/// The room at first, in bytes: those that wait, and a row.
 const ROOM: usize = 8192;
 
 /// How many tokens of a channel may wait for those of another one.
 pub const MOST_AHEAD: usize = 1000000;
 
-/// Why tokens were not written to a file of several channels: a write failed, of which some bytes may have been
-/// written; a token does not fit; more than [`MOST_AHEAD`] tokens of a channel wait for those of another one; or
-/// memory was refused.
+/// Why tokens were not written to a table: a write failed, after some bytes or none; a token does not fit;
+/// more than [`MOST_AHEAD`] tokens of a channel wait for another channel's; or out of memory.
 #[derive(Clone, Copy, Debug, PartialEq, Eq)]
 pub(crate) enum TableFault {
     Failed,
@@ -32,15 +31,14 @@ pub(crate) enum TableFault {
     Memory,
 }
 
-/// A sink for the tokens of several channels, side by side in rows. A token waits until its row has one of each
-/// channel. Rows wait until there are more than 4,096 bytes of them, or until they are flushed.
-///
-/// Contracts see the columns, and what was written with what waits.
+/// A sink for the tokens of several channels, side by side in rows. A token waits until its row has one of
+/// each channel. Rows wait until they have more than 4,096 bytes, or are flushed. Contracts see the columns,
+/// and what is written together with what waits.
 #[derive(Drop)]
 pub struct TableOutlet<S: Sink> {
     table: Table,
     lanes: Vec<Lane>,
-    /// The cells of the row that is written.
+    /// The cells of the row being written.
     row: Vec<Cell>,
     sink: S,
     waiting: Vec<u8>,
@@ -61,9 +59,7 @@ impl<S: Sink> Model for TableOutlet<S> {
 }
 
 impl<S: Sink + Drop> TableOutlet<S> {
-    /// Makes a sink with these columns, and room for the rows that wait. Nothing is written yet.
-    ///
-    /// Errors: memory was refused.
+    /// Creates a sink with nothing written yet. Errors: out of memory.
     pub(crate) fn new(
         alloc: Global,
         table: Table,
@@ -86,14 +82,14 @@ impl<S: Sink + Drop> TableOutlet<S> {
 }
 
 impl<S: Sink> TableOutlet<S> {
-    /// Returns how many columns there are.
+    /// Returns the number of columns.
     pub fn width(&self) -> usize
         ensures { result ≡ length self.now.lanes }
     {
         self.lanes.len()
     }
 
-    /// Returns the number of the channel of a column.
+    /// Returns the number of a column's channel.
     pub fn channel(&self, place: usize) -> usize
         requires { place < length self.now.lanes }
         ensures { result ≡ (lane_at self.now place).head.channel }
@@ -101,8 +97,7 @@ impl<S: Sink> TableOutlet<S> {
         self.lanes[place].channel()
     }
 
-    /// Returns how many tokens were taken into a column: they are written, or wait. `u64::MAX` if they are as many
-    /// or more. After a write that has failed, some of them may not be written.
+    /// Returns how many tokens a column took, at most `u64::MAX`. After a failed write, some may be lost.
     pub fn tokens(&self, place: usize) -> u64
         requires { place < length self.now.lanes }
         ensures { result ≡ (lane_at self.now place).tokens }
@@ -110,8 +105,7 @@ impl<S: Sink> TableOutlet<S> {
         self.lanes[place].tokens()
     }
 
-    /// Returns for how many tokens of a column the nearest is written that fits; `u64::MAX` if they are as many or
-    /// more.
+    /// Returns how many tokens of a column were clipped to the nearest value that fits, at most `u64::MAX`.
     pub fn clipped(&self, place: usize) -> u64
         requires { place < length self.now.lanes }
         ensures { result ≡ (lane_at self.now place).clipped }
@@ -127,7 +121,7 @@ impl<S: Sink> TableOutlet<S> {
         self.lanes[place].waiting()
     }
 
-    /// Returns how many bytes wait to be written: 4,096 at most.
+    /// Returns how many bytes wait to be written: at most 4,096.
     pub fn waiting(&self) -> usize
         ensures is { result ≡ length self.now.waiting }
         ensures few { result ≤ 4096 }
@@ -135,21 +129,21 @@ impl<S: Sink> TableOutlet<S> {
         self.waiting.len()
     }
 
-    /// Returns whether a write has failed, or memory was refused for one.
+    /// Returns whether a write failed, or ran out of memory.
     pub fn has_failed(&self) -> bool
         ensures { result ≡ self.now.has_failed }
     {
         self.has_failed
     }
 
-    /// Lends the sink, to which what waits is not yet written.
+    /// Returns the sink. It lacks the bytes that wait.
     pub fn sink(&self) -> &S
         ensures { append_known (S.seen result.now).contents self.now.waiting ≡ self.now.contents }
     {
         &self.sink
     }
 
-    /// Returns the sink. What waits is not written to it.
+    /// Returns the sink. It lacks the bytes that wait.
     pub fn into_sink(self) -> S
         ensures { append_known (S.seen result).contents self.waiting ≡ self.contents }
     {
@@ -157,8 +151,8 @@ impl<S: Sink> TableOutlet<S> {
         sink
     }
 
-    /// Takes tokens into a column, and has the rows wait that now have a token of each column; writes what waits where
-    /// that is more than 4,096 bytes. Once it has failed, no more tokens are taken.
+    /// Takes tokens into a column, and appends the rows that become full. Writes what waits if it has more
+    /// than 4,096 bytes. After a failed write, it takes no tokens.
     pub(crate) fn write(&mut self, place: usize, tokens: &[Token]) -> Result<(), TableFault>
         requires { place < length self.old.lanes }
         ensures writes { WritesTable self.old self.new (only_at place tokens.now) }
@@ -175,7 +169,6 @@ impl<S: Sink> TableOutlet<S> {
         self.end_of_write(place)
     }
 
-    /// What a write to a column comes to that has not failed.
     fn end_of_write(&self, place: usize) -> Result<(), TableFault>
         requires { place < length self.now.lanes }
         ensures { IfErr result (IsTableFault self.now) }
@@ -197,7 +190,6 @@ impl<S: Sink> TableOutlet<S> {
         self.lanes[place].is_misfit()
     }
 
-    /// Takes tokens into a column.
     fn take(&mut self, place: usize, tokens: &[Token]) -> Result<(), AllocError>
         requires { place < length self.old.lanes }
         ensures others { self.new ≡ record self.old { lanes = set self.old.lanes place (lane_at self.new place) } }
@@ -207,7 +199,7 @@ impl<S: Sink> TableOutlet<S> {
         self.lanes[place].take(tokens)
     }
 
-    /// Has so many rows wait, with no token where a column has none any more; writes what waits where that is more
+    /// Appends `count` rows, with gaps where a column has no token left. Writes what waits if it has more
     /// than 4,096 bytes.
     fn write_rows(&mut self, count: usize) -> Result<(), TableFault>
         ensures rows { RowsGo self.old self.new count }
@@ -220,7 +212,6 @@ impl<S: Sink> TableOutlet<S> {
         Ok(())
     }
 
-    /// Writes one row.
     fn write_row(&mut self) -> Result<(), TableFault>
         ensures rows { RowsGo self.old self.new 1 }
         ensures failed { IfErr result (λ _. self.new.has_failed ≡ true) }
@@ -249,7 +240,7 @@ impl<S: Sink> TableOutlet<S> {
         Ok(())
     }
 
-    /// Writes what waits, unless a write has failed. If it fails, some of it may have been written.
+    /// Writes what waits, unless a write has failed before. If it fails, some bytes may have been written.
     pub(crate) fn flush(&mut self) -> Result<(), TableFault>
         ensures flushes { FlushesTable self.old self.new }
         ensures failed { IfErr result (λ _. self.new.has_failed ≡ true) }
@@ -263,8 +254,7 @@ impl<S: Sink> TableOutlet<S> {
         Ok(())
     }
 
-    /// Writes all that waits, with no token where a column is shorter than another one. If it fails, some of it may
-    /// have been written.
+    /// Writes all that waits, with gaps where a column is shorter. If it fails, some bytes may have been written.
     pub(crate) fn end(&mut self) -> Result<(), TableFault>
         ensures ends { EndsTable self.old self.new }
         ensures failed { IfErr result (λ _. self.new.has_failed ≡ true) }
@@ -274,7 +264,6 @@ impl<S: Sink> TableOutlet<S> {
         self.flush()
     }
 
-    /// Remembers that a write has failed, and returns why.
     fn fail(&mut self, fault: TableFault) -> Result<(), TableFault>
         ensures failed { self.new ≡ record self.old { has_failed = true } }
         ensures fault { result ≡ Err fault }

@@ -1,4 +1,4 @@
-//! From the channels into files of several.
+//! Moves tokens from the channels into tables.
 ghost use Rattle.std.specs.Prelude.{◌≡◌, ◌<◌, ℕ, false, Ok, IfErr, List, [], length};
 ghost use Rattle.kpn_model.specs.Network.{Family};
 ghost use Rattle.kpn_model.specs.Families.{family};
@@ -15,7 +15,6 @@ use kpn_flow::Flow;
 use kpn_front::Sink;
 use kpn_model::Token;
 
-/// Moves the first tokens of the channel of a column to it. Returns whether there were any.
 fn tell_lane<B: Body, S: Sink>(
     flow: &mut Flow<B>,
     table: &mut TableOutlet<S>,
@@ -42,8 +41,7 @@ fn tell_lane<B: Body, S: Sink>(
     }
 }
 
-/// Moves tokens to a column of the table at place `k`, if it has it; there are so many sinks before the tables. If that
-/// fails, returns why the stream ends.
+/// Moves tokens to column `place` of table `k`, if it has one. The tables follow `first` sinks.
 fn tell_lane_at<B: Body, S: Sink>(
     flow: &mut Flow<B>,
     tables: &mut [TableOutlet<S>],
@@ -66,7 +64,7 @@ fn tell_lane_at<B: Body, S: Sink>(
     }
 }
 
-/// Why a stream ends whose table at place `k` has this fault; there are so many sinks before the tables.
+/// Returns why a stream ends when table `k` has this fault, after `first` sinks.
 fn finish_of(fault: TableFault, first: usize, k: usize) -> Finish
     ensures { (kinds : Family) (s : FlowView) (ins : List InletView) (sinks : List OutletView) (tables : List TableView) → length sinks ≡ first → k < length tables → IsTableFault (table_at tables k) fault → IsFinish kinds s ins (outs sinks tables) result }
 {
@@ -81,7 +79,6 @@ fn finish_of(fault: TableFault, first: usize, k: usize) -> Finish
     }
 }
 
-/// Moves tokens to all columns of the table at place `k`.
 fn tell_table<B: Body, S: Sink>(
     flow: &mut Flow<B>,
     tables: &mut [TableOutlet<S>],
@@ -104,7 +101,6 @@ fn tell_table<B: Body, S: Sink>(
     Ok(has_moved)
 }
 
-/// Moves tokens to all tables. Returns whether any was moved.
 pub(crate) fn tell_tables<B: Body, S: Sink>(
     flow: &mut Flow<B>,
     tables: &mut [TableOutlet<S>],
@@ -125,8 +121,7 @@ pub(crate) fn tell_tables<B: Body, S: Sink>(
     Ok(has_moved)
 }
 
-/// Writes what waits to each table, also where another one fails; not what waits for its row. If one does, returns
-/// why the stream ends.
+/// Writes the full rows of each table, even if another one fails. Returns why the stream ends if one fails.
 pub(crate) fn flush_tables<S: Sink>(
     tables: &mut [TableOutlet<S>],
     first: usize,
@@ -148,7 +143,7 @@ pub(crate) fn flush_tables<S: Sink>(
     }
 }
 
-/// Writes all that waits to each table, also where another one fails. If one does, returns why the stream ends.
+/// Writes all that waits, for each table, even if another one fails. Returns why the stream ends if one fails.
 pub(crate) fn end_tables<S: Sink>(tables: &mut [TableOutlet<S>], first: usize) -> Result<(), Finish>
     ensures ends { AllEnd tables.old tables.new }
     ensures finish { IfErr result (λ f. (kinds : Family) (s : FlowView) (ins : List InletView) (sinks : List OutletView) → length sinks ≡ first → IsFinish kinds s ins (outs sinks tables.new) f) }

@@ -1,4 +1,4 @@
-//! From the channels into their sinks.
+//! Moves tokens from the channels into their sinks.
 ghost use Rattle.std.specs.Prelude.{◌≡◌, ◌<◌, ℕ, true, false, Ok, IfErr, List, [], length};
 ghost use Rattle.kpn_model.specs.Network.{Family};
 ghost use Rattle.kpn_model.specs.Families.{family};
@@ -42,7 +42,6 @@ fn tell<B: Body, S: Sink>(flow: &mut Flow<B>, outlet: &mut Outlet<S>) -> Result<
     }
 }
 
-/// Moves tokens to the sink at place `k`. If that fails, returns why the stream ends.
 fn tell_at<B: Body, S: Sink>(
     flow: &mut Flow<B>,
     outlets: &mut [Outlet<S>],
@@ -62,7 +61,6 @@ fn tell_at<B: Body, S: Sink>(
     }
 }
 
-/// Moves tokens to all sinks. Returns whether any was moved.
 fn tell_sinks<B: Body, S: Sink>(
     flow: &mut Flow<B>,
     outlets: &mut [Outlet<S>],
@@ -82,7 +80,7 @@ fn tell_sinks<B: Body, S: Sink>(
     Ok(has_moved)
 }
 
-/// Writes what waits to each sink, also where another one fails. If one does, returns why the stream ends.
+/// Writes what waits, for each sink, even if another one fails. Returns why the stream ends if one fails.
 fn flush_sinks<S: Sink>(outlets: &mut [Outlet<S>]) -> Result<(), Finish>
     ensures streams { (kinds : Family) (s : FlowView) (ins : List InletView) (tables : List TableView) → Streams kinds s s ins ins (outs outlets.old tables) (outs outlets.new tables) }
     ensures written { (k : ℕ) → k < length outlets.new → (outlet_at outlets.new k).has_failed ≡ false → (outlet_at outlets.new k).waiting ≡ [] }
@@ -101,7 +99,7 @@ fn flush_sinks<S: Sink>(outlets: &mut [Outlet<S>]) -> Result<(), Finish>
     }
 }
 
-/// All to which tokens go out: sinks for one channel, and behind them those for several.
+/// All sinks of a stream: those for one channel, and then those for several.
 #[derive(Drop)]
 pub(crate) struct Outs<S: Sink> {
     pub(crate) sinks: Vec<Outlet<S>>,
@@ -117,8 +115,7 @@ impl<S: Sink> Model for Outs<S> {
 }
 
 impl<S: Sink> Outs<S> {
-    /// Moves the first tokens of each channel to its sink. Returns whether any token was moved. If it fails, returns
-    /// why the stream ends.
+    /// Moves the first tokens of each channel to its sink. Returns whether it moved any, or why the stream ends.
     pub(crate) fn tell_all<B: Body>(&mut self, flow: &mut Flow<B>) -> Result<bool, Finish>
         ensures streams { (ins : List InletView) → Streams (family B.Kinds.Kinds) flow.old flow.new ins ins self.old self.new }
         ensures same { IsSameFlow flow.old flow.new }
@@ -137,8 +134,8 @@ impl<S: Sink> Outs<S> {
         Ok(moved || moved_more)
     }
 
-    /// Writes what waits to each sink, also where another one fails; not what waits for its row. If one does, returns
-    /// why the stream ends.
+    /// Writes what waits and the full rows, for each sink, even if another one fails. Returns why the stream
+    /// ends if one fails.
     pub(crate) fn flush_all(&mut self) -> Result<(), Finish>
         ensures streams { (kinds : Family) (s : FlowView) (ins : List InletView) → Streams kinds s s ins ins self.old self.new }
         ensures written { AreWritten self.new }
@@ -153,8 +150,8 @@ impl<S: Sink> Outs<S> {
         }
         tables
     }
-    /// Writes all that waits, with no token where a column of a table is shorter; not what waits at a sink for one
-    /// channel. If a write fails, returns why the stream ends.
+    /// Writes all that waits in tables, with gaps where a column is shorter, but nothing to sinks of one
+    /// channel. Returns why the stream ends if a write fails.
     pub(crate) fn end(&mut self) -> Result<(), Finish>
         ensures sinks { self.new.sinks ≡ self.old.sinks }
         ensures ends { AllEnd self.old.tables self.new.tables }

@@ -1,4 +1,4 @@
-//! Times one run, from the opening of its machine to its end.
+//! Times a run, from the opening of its machine to its end.
 
 use crate::numbers::burn;
 use kpn_body::{Body, Standard, answer};
@@ -13,8 +13,7 @@ use std::sync::Wait;
 use std::thread::Threads;
 use std::time::Instant;
 
-/// A card that has a signature, for which the standard family answers after computing a number of
-/// random numbers.
+/// A card with a signature, which answers after computing a number of random numbers.
 #[derive(Drop)]
 struct Burning {
     card: Card,
@@ -50,15 +49,15 @@ impl Body for Burning {
     }
 }
 
-/// The gate of the workers: with `Open` they call every body outside the lock, with `Prompt` one of them asks bodies
-/// under the lock while calls are short.
+/// The gate of the workers. With `Open` they call all bodies outside the lock; with `Prompt` one of them asks
+/// bodies under the lock while calls are short.
 #[derive(Clone, Copy)]
 pub enum GateChoice {
     Open,
     Prompt,
 }
 
-/// How many workers there are, their gate, and how many numbers a body computes before it answers.
+/// The number of workers, their gate, and how many numbers a body computes before it answers.
 #[derive(Clone, Copy)]
 pub struct Timing {
     pub workers: usize,
@@ -66,7 +65,7 @@ pub struct Timing {
     pub gate: GateChoice,
 }
 
-/// Runs a network, and prints how many entries there were and how many nanoseconds it took.
+/// Runs a network, and prints the number of entries and the nanoseconds.
 pub fn run_timed<R: Threads + Wait + Clock + Sync + Print>(
     rt: &R,
     alloc: Global,
@@ -97,7 +96,7 @@ fn bodies_of(alloc: Global, net: &Net<Standard>, numbers: u64) -> Result<Vec<Bur
     Ok(bodies)
 }
 
-/// Runs a network as asked (0 workers are the calling thread without a lock), and returns how many entries there were.
+/// Runs a network, and returns its number of entries. 0 workers: the calling thread, without a lock.
 fn entries_of<R: Threads + Wait + Clock + Sync>(
     rt: &R,
     alloc: Global,

@@ -1,12 +1,11 @@
-//! Runs a network that is described on standard input by several workers. The words are
+//! Runs the network described on standard input with several workers. The arguments are:
 //!
-//! - `time WORKERS NUMBERS GATE`: times the run, whose bodies compute that many random numbers before each
-//!   answer, with the gate `open` or `prompt` (0 workers are the calling thread without a lock);
-//! - `stress WORKERS MOST SEED HELD OTHER`: bodies compute for random times, up to that many random
-//!   numbers (2^n - 1), one process is held up for another, and the report of the run is written.
+//! - `time WORKERS NUMBERS GATE`: times the run. Bodies compute that many random numbers before each answer;
+//!   the gate is `open` or `prompt`; 0 workers are the calling thread without a lock.
+//! - `stress WORKERS MOST SEED HELD OTHER`: bodies compute up to `MOST` (2^n - 1) random numbers, one process
+//!   is held up for another, and the report is written.
 //!
-//! Any other words are refused with status 1; a network that can't be read, and a run that is refused,
-//! with status 4.
+//! The exit status is 1 for other arguments, and 4 if the network can't be read or the run fails.
 #![tactic(auto)]
 
 mod burning;
@@ -25,7 +24,6 @@ use std::sync::Wait;
 use std::thread::Threads;
 use straying::{Stress, run_stressed};
 
-/// What the words ask for.
 #[derive(Clone, Copy)]
 enum Asked {
     Time(Timing),
@@ -82,7 +80,6 @@ fn number_of(words: &Vec<String>, place: usize) -> Option<u64> {
     words.get(place)?.parse::<u64>().ok()
 }
 
-/// Reads the network, and runs it as asked.
 fn play<R: Threads + Wait + Clock + Sync + Input + Print>(
     rt: &R,
     alloc: Global,

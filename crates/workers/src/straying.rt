@@ -1,5 +1,4 @@
-//! Runs a network with bodies that compute for random times and with one process that is held up for
-//! another.
+//! Runs a network with bodies that compute for random times, and one process held up for another.
 
 use crate::numbers::{burn, following};
 use kpn_body::{Body, Standard, answer};
@@ -14,10 +13,10 @@ use std::sync::Wait;
 use std::sync::atomic::{AtomicU64, Ordering};
 use std::thread::Threads;
 
-/// How often a held process looks, at most, whether the other has passed.
+/// How often a held process checks, at most, whether the other has passed.
 const LOOKS: u64 = 20_000;
 
-/// A card that has a signature, for which the standard family answers after a random time.
+/// A card with a signature, which answers after a random time.
 #[derive(Drop)]
 struct Straying {
     card: Card,
@@ -57,8 +56,8 @@ impl Body for Straying {
     }
 }
 
-/// How many workers there are, the greatest number of random numbers that a body computes before it
-/// answers (2^n - 1), a seed, the process that is held up, and the one that it gives way to.
+/// The number of workers, the maximum of random numbers that a body computes before it answers (2^n - 1), a
+/// seed, the process that is held up, and the one that it waits for.
 #[derive(Clone, Copy)]
 pub struct Stress {
     pub workers: usize,
@@ -68,7 +67,7 @@ pub struct Stress {
     pub other: usize,
 }
 
-/// Runs a network, and writes the report of the run.
+/// Runs a network, and writes its report.
 pub fn run_stressed<R: Threads + Wait + Clock + Sync + Print>(
     rt: &R,
     alloc: Global,
