@@ -1,4 +1,4 @@
-//! Does what a process wants, if it can be done.
+//! Does the acts of processes.
 ghost use Rattle.std.specs.Prelude.{◌≡◌, ◌≢◌, ◌<◌, ℕ, List, Option, length, set, Some, IfSome, IfNone, IsSome};
 ghost use Rattle.kpn_model.specs.declared.token.Token.{Token as TokenV};
 ghost use Rattle.kpn_model.specs.Network.{card_of};
@@ -16,7 +16,7 @@ use kpn_network::Net;
 use kpn_state::standing::standing_after;
 use kpn_state::{Keeper, Roster, Store};
 
-/// Reads, if the channel holds a token; otherwise returns `None`, and nothing changes.
+/// Reads, if the channel holds a token; otherwise returns `None` and changes nothing.
 #[inline(always)]
 fn read<K: Kinds, H: Keeper>(
     net: &Net<K>,
@@ -43,8 +43,7 @@ fn read<K: Kinds, H: Keeper>(
     Some(Deed::Took { channel, token })
 }
 
-/// Writes, if the channel holds fewer tokens than its capacity; otherwise returns `None`, and nothing
-/// changes.
+/// Writes, if the channel has room; otherwise returns `None` and changes nothing.
 #[inline(always)]
 fn write<K: Kinds, H: Keeper>(
     net: &Net<K>,
@@ -72,7 +71,7 @@ fn write<K: Kinds, H: Keeper>(
     Some(Deed::Put { channel, token })
 }
 
-/// Does what a process answered, if it can be done; otherwise returns `None`, and nothing changes.
+/// Does the act of an answer, if that is possible; otherwise returns `None` and changes nothing.
 #[inline(always)]
 fn perform<K: Kinds, H: Keeper>(
     net: &Net<K>,
@@ -110,8 +109,8 @@ fn laws_of<K: Kinds>(card: Card)
     let [_first, _second, _third] = card.args;
 }
 
-/// Does what a process answered and moves the process on, if it can be done; otherwise returns `None`,
-/// and nothing changes.
+/// Does the act of an answer and updates the standing of its process, if the act is possible; otherwise returns `None`
+/// and changes nothing.
 #[inline(always)]
 pub fn advance<K: Kinds, H: Keeper>(
     net: &Net<K>,
@@ -140,7 +139,7 @@ pub fn advance<K: Kinds, H: Keeper>(
     Some(deed)
 }
 
-/// Reads or writes, if that can be done; otherwise returns `None`, and nothing changes.
+/// Reads or writes, if that is possible; otherwise returns `None` and changes nothing.
 #[inline(always)]
 fn perform_on<K: Kinds, H: Keeper>(
     net: &Net<K>,
@@ -165,8 +164,8 @@ fn perform_on<K: Kinds, H: Keeper>(
     }
 }
 
-/// Does what a process answered, if that is a read or a write and can be done; otherwise returns `None`, and nothing
-/// changes. That the process is ready then is left to the caller.
+/// Does the act of an answer, if it is a read or a write and possible; otherwise returns `None` and changes nothing. The
+/// caller sets the standing of the process.
 #[inline(always)]
 pub(crate) fn advance_on<K: Kinds, H: Keeper>(
     net: &Net<K>,

@@ -1,4 +1,4 @@
-//! Ready processes are asked where their bodies lie: the one loop of machines and of flows.
+//! Asks ready processes in place: the one loop of machines and flows.
 ghost use Rattle.std.specs.Prelude.{◌≡◌, ◌≢◌, ℕ, List, ◌<◌, ◌≤◌, ◌+◌, length, get_or, map, option_map, Some, None, IfSome};
 ghost use Rattle.kpn_model.specs.Network.{card_of};
 ghost use Rattle.kpn_model.specs.Families.{family};
@@ -18,11 +18,11 @@ use kpn_model::{Act, Local, Status, Token};
 use kpn_network::Net;
 use kpn_state::{Keeper, Store};
 
-/// Asks ready processes where their bodies lie, one after the other, and does what each answers or parks it, until
-/// `most` were asked, there are `until` entries or no process is ready. Returns how many were asked.
+/// Asks ready processes in place, and does or parks their acts, until `most` were asked, there are `until` entries
+/// or no process is ready. Returns how many were asked.
 ///
-/// `again` is a process to be asked first, and afterwards the one that would be asked next (`goes_on_after`). The history
-/// must have room for one entry more than `until`.
+/// `again` is the process to ask first, and afterwards the one to ask next. The history must have room for
+/// `until + 1` entries.
 #[inline(always)]
 pub fn ask_ready<B: Body, H: Keeper>(
     net: &Net<B::Kinds>,
@@ -65,14 +65,13 @@ pub fn ask_ready<B: Body, H: Keeper>(
     most
 }
 
-/// What a process is asked: its body, with its local state and last token.
+/// The body of a process, with its local state and last token.
 struct Question<'a, B: Body> {
     body: &'a B,
     local: &'a Local,
     last: &'a Option<Token>,
 }
 
-/// What a live process is asked.
 #[inline(always)]
 fn question_to<'a, B: Body, H: Keeper>(
     net: &Net<B::Kinds>,
@@ -96,9 +95,9 @@ fn question_to<'a, B: Body, H: Keeper>(
     Question { body, local, last }
 }
 
-/// Whether a process is likely to do its next act at once after this one, where `has_read` says that the act before was a
-/// read. A process writes or reads at its next port after a read. After a write it waits for its reader, and after two reads
-/// at port 0 for its writer.
+/// Whether a process is likely to do its next act at once after this one; `has_read` says that the one before was a
+/// read. After a read most processes write, or read their next port. After a write they wait for their reader, and
+/// after two reads of port 0 for their writer.
 #[inline(always)]
 fn goes_on_after(act: Act, has_read: bool) -> bool {
     match act {

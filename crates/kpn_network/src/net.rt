@@ -9,9 +9,8 @@ use kpn_model::{Card, Channel, Ends, Kinds, Process, Sort, Token};
 use std::alloc::{AllocError, Global};
 use std::marker::{Model, PhantomData};
 
-/// What a network is made of: its processes and its channels, the budget of a run in entries of its
-/// history, by how much a growth enlarges a channel, and the capacity beyond which none grows. A
-/// channel names a process by its place in the list.
+/// The parts of a network: processes, channels, the budget of a run in entries, the step of a growth, and the
+/// ceiling of capacities. A channel names a process by its place in the list.
 #[derive(Drop)]
 pub struct Parts {
     pub processes: Vec<Process>,
@@ -21,12 +20,12 @@ pub struct Parts {
     pub ceiling: usize,
 }
 
-/// A valid network of processes of one family of kinds: each port of each process is the end of exactly
-/// one channel, of its sort (Kahn 1974: a channel has one writer and one reader). Processes and
-/// channels are numbered from 0 in the order of the text.
+/// A valid network of processes of one family of kinds: each port of each process is the end of exactly one
+/// channel, of its sort (Kahn 1974: a channel has one writer and one reader). Processes and channels are
+/// numbered from 0 in the order of the text.
 ///
-/// `Net::of_parts` makes one, and `Check` of `kpn_net` one of a description. The number of a process or
-/// of a channel that is given to a call must be below `processes()` or `channels()`.
+/// `check` of `kpn_net` makes one of a sketch. A process or channel number that is passed to a call must be
+/// below `processes()` or `channels()`.
 pub struct Net<K: Kinds> {
     processes: Vec<Process>,
     channels: Vec<Channel>,
@@ -37,8 +36,7 @@ pub struct Net<K: Kinds> {
     kinds: PhantomData<K>,
 }
 
-// Written out, so that letting go of a network is a call, which is proved once, and not done field by field wherever
-// one ends: that would be most of what it takes to prove who owns one.
+// Written out, so that each drop is one call, proved once. Else owners' proofs would mostly drop its fields.
 impl<K: Kinds> Drop for Net<K> {
     fn drop(self) {
         let Net {
@@ -68,10 +66,9 @@ impl<K: Kinds> Model for Net<K> {
 }
 
 impl<K: Kinds> Net<K> {
-    /// Makes a network of parts that are a valid one. All stays as it is: processes and channels keep
-    /// their order, and so their numbers.
+    /// Makes a network of valid parts. Processes and channels keep their order, and so their numbers.
     ///
-    /// Errors: memory was refused, for a table of the channel at each port. The parts are dropped then.
+    /// Errors: out of memory, for the table of the channel at each port. The parts are then dropped.
     pub fn of_parts(alloc: Global, parts: Parts) -> Result<Net<K>, AllocError>
         requires { IsValid K.signature (network_of parts) }
         ensures { IfOk result (λ n. n ≡ network_of parts) }
@@ -88,7 +85,7 @@ impl<K: Kinds> Net<K> {
         })
     }
 
-    /// Returns the number of processes: 1 to 64. A caller also learns that the network is valid.
+    /// Returns the number of processes, 1 to 64.
     ///
     /// ```text
     /// for process in 0..net.processes() {
@@ -108,7 +105,7 @@ impl<K: Kinds> Net<K> {
         let _ = &self.processes;
     }
 
-    /// Returns the number of channels: 0 to 256.
+    /// Returns the number of channels, 0 to 256.
     pub fn channels(&self) -> usize
         ensures { result ≡ length self.now.channels }
     {
@@ -123,8 +120,7 @@ impl<K: Kinds> Net<K> {
         self.processes[p].card
     }
 
-    /// Returns the name of process `p`: 1 to 16 characters, and no other
-    /// process has it.
+    /// Returns the name of process `p`: 1 to 16 characters, unique among processes.
     ///
     /// ```text
     /// if process < net.processes() {
@@ -138,8 +134,7 @@ impl<K: Kinds> Net<K> {
         self.processes[p].name.as_str()
     }
 
-    /// Returns the name of channel `c`: 1 to 16 characters, and no other
-    /// channel has it.
+    /// Returns the name of channel `c`: 1 to 16 characters, unique among channels.
     ///
     /// ```text
     /// Place::Reads(channel) if *channel < net.channels() => {
@@ -167,7 +162,7 @@ impl<K: Kinds> Net<K> {
         self.channels.iter().position(|c| c.name.as_str() == name)
     }
 
-    /// Returns where channel `c` begins and ends. Both ports exist.
+    /// Returns the two ends of channel `c`. Both ports exist.
     pub fn ends(&self, c: usize) -> Ends
         requires { c < length self.now.channels }
         ensures writer { result.writer ≡ (channel_of self.now c).writer }
@@ -184,7 +179,7 @@ impl<K: Kinds> Net<K> {
         }
     }
 
-    /// Returns the sort of channel `c`: what it carries, as do the ports at both its ends.
+    /// Returns the sort of channel `c`, which is that of the ports at its ends.
     pub fn sort(&self, c: usize) -> Sort
         requires { c < length self.now.channels }
         ensures { result ≡ (channel_of self.now c).sort }
@@ -200,8 +195,7 @@ impl<K: Kinds> Net<K> {
         self.channels[c].capacity
     }
 
-    /// Returns the tokens that channel `c` holds at first, in the order in which they are read: at most
-    /// as many as its capacity, all of its sort.
+    /// Returns the start tokens of channel `c`, in reading order: at most its capacity, all of its sort.
     pub fn tokens(&self, c: usize) -> &[Token]
         requires { c < length self.now.channels }
         ensures { result.now ≡ (channel_of self.now c).tokens }
@@ -209,32 +203,31 @@ impl<K: Kinds> Net<K> {
         self.channels[c].tokens.as_slice()
     }
 
-    /// Returns the budget: a run ends once its history has that many entries, and the history may have
-    /// up to two more. It is 1 to 1,000,000 if the ceiling is at most 65,535, and else 1 to 2,000,000.
+    /// Returns the budget in entries: a run ends once its history has that many or up to two more. It is 1 to
+    /// 1,000,000 if the ceiling is at most 65,535, else 1 to 2,000,000.
     pub fn budget(&self) -> u64
         ensures { result ≡ self.now.budget }
     {
         self.budget
     }
 
-    /// Returns how much a growth adds to the capacity of a channel: 1 to 1,024 (Parks 1995 enlarges a
-    /// full channel when a run can't go on otherwise).
+    /// Returns how many tokens a growth adds to a channel's capacity: 1 to 1,024 (Parks 1995 enlarges a full
+    /// channel at an artificial deadlock).
     pub fn step(&self) -> usize
         ensures { result ≡ self.now.step }
     {
         self.step
     }
 
-    /// Returns the capacity beyond which no channel grows, in tokens: at most 1,000,000. It is 65,535 in
-    /// version 1 of the description and 1,000,000 in version 2.
+    /// Returns the capacity beyond which no channel grows, in tokens: 65,535 in version 1 of the description,
+    /// 1,000,000 in version 2.
     pub fn ceiling(&self) -> usize
         ensures { result ≡ self.now.ceiling }
     {
         self.ceiling
     }
 
-    /// Returns the number of the channel that leads to input `port` of process `p`; `None` if there is
-    /// no such process or input.
+    /// Returns the channel at input `port` of process `p`; `None` if there is no such process or input.
     pub fn in_of(&self, p: usize, port: usize) -> Option<usize>
         ensures is { result ≡ in_of self.now p port }
         ensures within { IfSome result (λ c. c < length self.now.channels) }
@@ -246,8 +239,8 @@ impl<K: Kinds> Net<K> {
         }
     }
 
-    /// Returns the number of the channel that leads to input `port` of process `p`, which must be one of the network;
-    /// `None` if it has no such input. It is `in_of` with a comparison less.
+    /// Returns the channel at input `port` of process `p`; `None` if it has no such input. Unlike `in_of` it doesn't
+    /// compare `p`.
     #[inline(always)]
     pub fn input_at(&self, p: usize, port: usize) -> Option<usize>
         requires process { p < length self.now.processes }
@@ -261,8 +254,7 @@ impl<K: Kinds> Net<K> {
         }
     }
 
-    /// Returns the number of the channel that leads from output `port` of process `p`; `None` if there
-    /// is no such process or output.
+    /// Returns the channel at output `port` of process `p`; `None` if there is no such process or output.
     pub fn out_of(&self, p: usize, port: usize) -> Option<usize>
         ensures is { result ≡ out_of self.now p port }
         ensures within { IfSome result (λ c. c < length self.now.channels) }
@@ -274,8 +266,8 @@ impl<K: Kinds> Net<K> {
         }
     }
 
-    /// Returns the number of the channel that leads from output `port` of process `p`, which must be one of the network;
-    /// `None` if it has no such output. It is `out_of` with a comparison less.
+    /// Returns the channel at output `port` of process `p`; `None` if it has no such output. Unlike `out_of` it
+    /// doesn't compare `p`.
     #[inline(always)]
     pub fn output_at(&self, p: usize, port: usize) -> Option<usize>
         requires process { p < length self.now.processes }

@@ -1,4 +1,4 @@
-//! What a run starts from, and why it may fail.
+//! Starts runs, and says why one failed.
 ghost use Rattle.std.specs.Prelude.{◌≡◌, ◌≢◌, ◌<◌, ◌≤◌, ◌⊎◌, false, map, IfOk, IfErr, IsTrue, OnOk};
 ghost use Rattle.kpn_model.specs.Network.{Network as NetV};
 ghost use Rattle.kpn_body.specs.Input.{Input};
@@ -14,26 +14,26 @@ use kpn_network::Net;
 use kpn_state::Keeper;
 use std::alloc::Global;
 
-/// The greatest number of workers of a run.
+/// The most workers of a run.
 pub const MOST_WORKERS: usize = 16;
 
-/// Why a run by workers failed.
+/// Why a run failed.
 #[derive(Drop)]
 pub enum Failure<B: Body> {
-    /// Nothing has run, and the network and bodies of its cards are handed back.
+    /// Nothing has run; returns the network and bodies of its cards.
     NotRun {
         net: Net<B::Kinds>,
         bodies: Vec<B>,
         fault: OpenFault,
     },
-    /// The machine refused this answer of a worker.
+    /// The machine refused this answer.
     Lost {
         answered: Answered<B::Kinds>,
         body: B,
     },
 }
 
-/// Whether so many workers may share a run.
+/// Whether a run may have this number of workers: 1 to 16.
 pub fn may_work(workers: usize) -> bool
     ensures few { IsTrue result → (0 < workers) × (workers ≤ 16) }
     ensures other { result ≡ false → (workers ≡ 0) ⊎ (16 < workers) }
@@ -41,9 +41,9 @@ pub fn may_work(workers: usize) -> bool
     workers > 0 && workers <= MOST_WORKERS
 }
 
-/// Opens a machine and makes what its monitor is opened with. Takes the memory of both.
+/// Opens a machine, and makes what its monitor is opened with.
 ///
-/// Errors: as [`Machine::open`]; if memory was refused, bodies of the same cards are handed back.
+/// Errors: those of [`Machine::open`]. If out of memory, returns bodies of the same cards.
 pub fn opening_of<B: Body, H: Keeper>(
     alloc: Global,
     net: Net<B::Kinds>,
@@ -62,7 +62,7 @@ pub fn opening_of<B: Body, H: Keeper>(
     }
 }
 
-/// What is handed back of a machine that has not run, if memory was refused.
+/// What is returned of a machine that has not run, if out of memory.
 pub fn no_memory<B: Body, H: Keeper>(machine: Machine<B, H>) -> OpenRefused<B>
     requires { IsFresh machine }
     ensures net { result.net ≡ machine.network }
@@ -77,7 +77,7 @@ pub fn no_memory<B: Body, H: Keeper>(machine: Machine<B, H>) -> OpenRefused<B>
     }
 }
 
-/// The failure of a run that did not begin.
+/// The failure of a run that did not start.
 pub fn not_run<B: Body>(refused: OpenRefused<B>) -> Failure<B>
     ensures { result ≡ Failure.NotRun refused.net refused.bodies refused.fault }
 {
@@ -85,7 +85,7 @@ pub fn not_run<B: Body>(refused: OpenRefused<B>) -> Failure<B>
     Failure::NotRun { net, bodies, fault }
 }
 
-/// The failure of a run of which the machine refused this answer.
+/// The failure of a run in which the machine refused this answer.
 pub fn lost<B: Body>(finished: Finished<B>) -> Failure<B>
     ensures not_run { (n : NetV) (bs : _) (fault : OpenFaultV) → result ≢ Failure.NotRun n bs fault }
     ensures lost { (a : Input) (b : _) → result ≡ Failure.Lost a b → (a ≡ finished) × (B.card b ≡ a.card) }
