@@ -24,7 +24,7 @@ pub struct Parts {
 /// channel, of its sort (Kahn 1974: a channel has one writer and one reader). Processes and channels are
 /// numbered from 0 in the order of the text.
 ///
-/// `check` of `kpn_net` makes one of a sketch. A process or channel number that is passed to a call must be
+/// `Check` of `kpn_net` makes one of a sketch. A process or channel number that is passed to a call must be
 /// below `processes()` or `channels()`.
 pub struct Net<K: Kinds> {
     processes: Vec<Process>,
