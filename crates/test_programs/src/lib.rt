@@ -1,8 +1,6 @@
-//! Tests of the program `kpn` and of the examples: in `front` of kpn_front and kpn_args, in `serving` of kpn_execute, in
-//! `counting` of how often bodies are called, in `meeting` of bodies that wait for each other, in `refusals` of
-//! memory and threads that are refused while a network runs, in `looking` of how a flow stands, and in `examples` of example_own_kinds and
-//! example_least_room. They have a crate of their own so that these are proved once, and one crate so that what it uses is
-//! loaded once.
+//! Tests of `kpn` and of the examples, in one crate, so that its libraries are loaded once: `front` (kpn_front,
+//! kpn_args), `serving` (kpn_execute), `counting` (how often bodies are called), `meeting` (bodies that wait for each
+//! other), `refusals` (memory and threads refused while a network runs), `looking` (how a flow stands), and `examples`.
 #![tactic(auto)]
 
 #[cfg(test)]

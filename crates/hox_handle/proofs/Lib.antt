@@ -1,0 +1,4 @@
+mod Named
+mod OneMore
+mod Opened
+mod RunReports

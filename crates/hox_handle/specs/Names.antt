@@ -1,0 +1,25 @@
+-- The names in a text: its words, with white space between them.
+use Rattle.std.specs.Prelude.{◌≡◌, ◌<◌, ℕ, List, [], ◌∷◌, ◌++◌, length}
+use Rattle.core.specs.Char.{is_whitespace, is_not_whitespace}
+use Rattle.core.specs.Str.{NoCharPasses, EmptyOrStartsWithPassing}
+
+-- white space is passed over, and a word comes off the front of a text, up to white space or to the text's end
+pub record TakesWord (text word rest : List ℕ) : Type 0 where
+  pub gap : List ℕ
+  pub text_is : text ≡ gap ++ (word ++ rest)
+  pub some : 0 < length word
+  pub white : NoCharPasses is_not_whitespace gap
+  pub black : NoCharPasses is_whitespace word
+  pub more : List ℕ
+  pub ends : EmptyOrStartsWithPassing is_whitespace rest more
+
+-- these words come off, one after the other
+abbrev pub TakesWords : List ℕ → List (List ℕ) → List ℕ → Type 0
+TakesWords text [] rest = rest ≡ text
+TakesWords text (w ∷ ws) rest = (mid : List ℕ) × TakesWord text w mid × TakesWords mid ws rest
+
+-- these are all the words of a text
+pub record AreNames (text : List ℕ) (names : List (List ℕ)) : Type 0 where
+  pub rest : List ℕ
+  pub taken : TakesWords text names rest
+  pub white : NoCharPasses is_not_whitespace rest

@@ -1,0 +1,101 @@
+-- How a session is opened, and why one is not.
+use Rattle.std.specs.Prelude.{◌≡◌, ◌⊎◌, ℕ, List, Option, Err, false, IsUtf8}
+use Rattle.kpn_model.specs.declared.kinds.Card.{Card}
+use Rattle.kpn_model.specs.declared.kinds.Signature.{Signature}
+use Rattle.kpn_sketch.specs.declared.sketch.Sketch.{Sketch}
+use Rattle.kpn_sketch.specs.Description.{Describes}
+use Rattle.kpn_net.specs.Sketched.{net_of}
+use Rattle.kpn_standard.specs.Signatures.{named as standard_named, signature as standard_ports}
+use Rattle.kpn_signals.specs.Signatures.{number_named as signal_named, ports as signal_ports}
+use Rattle.kpn_compute.specs.Both.{both_named, both_ports}
+use Rattle.kpn_flow.specs.Flows.{FlowView}
+use Rattle.kpn_front.specs.Loading.{LoadsChanged}
+use Rattle.hox_network.specs.Ports.{as_meant}
+use Rattle.hox_stream.specs.Exits.{exit_named, exit_ports, with_exits}
+use Rattle.hox_stream.specs.Starts.{IsStarted, IsStreamFault}
+use Rattle.hox_stream.specs.declared.starting.StreamFault.{StreamFault}
+use Rattle.hox_stream.specs.declared.starting.StreamFault.TheVariants.{Description, Input, Output, Twice, Memory}
+use Rattle.kpn_sketch.specs.declared.fault.NetFault.TheVariants.{Memory as NoMemory}
+use Rattle.hox_stream.specs.declared.starting.NameFault.TheVariants.{Memory as NoNameMemory}
+use Rattle.hox_handle.specs.declared.answers.Answer.{Answer}
+use Rattle.hox_handle.specs.declared.answers.Answer.TheVariants.{Description as AnswerOf, NoInput, NoOutput, NoText as NoTextAnswer, Twice as TwiceNamed}
+use Rattle.hox_handle.specs.declared.opening.OpenFault.{OpenFault}
+use Rattle.hox_handle.specs.declared.opening.OpenFault.TheVariants.{NoText, Unopened}
+use Rattle.hox_handle.specs.Names.{AreNames}
+use Rattle.hox_handle.specs.Sessions.{flow_kinds}
+
+-- what the names and the cards of all kinds mean; and besides of the readers that stop at once
+abbrev pub all_named : List ℕ → Option (ℕ × ℕ)
+all_named = both_named standard_named signal_named
+
+abbrev pub all_ports : Card → Option Signature
+all_ports = both_ports standard_ports signal_ports
+
+abbrev pub flow_named : List ℕ → Option (ℕ × ℕ)
+flow_named = both_named all_named exit_named
+
+abbrev pub flow_ports : Card → Option Signature
+flow_ports = both_ports all_ports exit_ports
+
+-- the sketch of a text as it is meant, in which what only reads a channel that is drained stops at once
+abbrev pub flow_sketch : List ℕ → List (List ℕ) → Sketch → Sketch
+flow_sketch text drained described = with_exits drained (as_meant all_named all_ports text described)
+
+-- a text describes this sketch, as it is meant
+abbrev pub IsReadAs : List ℕ → Sketch → Type 0
+IsReadAs text sketch = (described : Sketch) × Describes text described × (sketch ≡ as_meant all_named all_ports text described)
+
+-- a flow stands at the start of the network of a text; the channels of the first names are its inputs, each at the place of its name,
+-- and those of the others its outputs
+pub record OpensBetween (text : List ℕ) (fed drained : List (List ℕ)) (start : FlowView) : Type 0 where
+  pub described : Sketch
+  pub describes : Describes text described
+  pub started : IsStarted flow_kinds (net_of flow_named (flow_sketch text drained described)) fed drained start
+
+-- the same, with the names in two texts
+pub record Opens (text inputs outputs : List ℕ) (start : FlowView) : Type 0 where
+  pub fed : List (List ℕ)
+  pub drained : List (List ℕ)
+  pub fed_are : AreNames inputs fed
+  pub drained_are : AreNames outputs drained
+  pub between : OpensBetween text fed drained start
+
+-- the network of the text can't be fed, or drained, so
+abbrev pub IsEndFault : List ℕ → List (List ℕ) → List (List ℕ) → StreamFault → Type 0
+IsEndFault text fed drained fault =
+    (described : Sketch) × Describes text described × IsStreamFault flow_kinds (net_of flow_named (flow_sketch text drained described)) (λ _. ⊥) fed drained fault
+
+-- why it is not opened between channels of these names
+abbrev pub IsUnopened : List ℕ → List (List ℕ) → List (List ℕ) → StreamFault → Type 0
+IsUnopened text fed drained (Description fault) = LoadsChanged (flow_sketch text drained) flow_named flow_ports false text (Err fault)
+IsUnopened text fed drained Memory = Unit {0}
+IsUnopened text fed drained (Input fault) = IsEndFault text fed drained (Input fault)
+IsUnopened text fed drained (Output fault) = IsEndFault text fed drained (Output fault)
+IsUnopened text fed drained Twice = IsEndFault text fed drained Twice
+
+-- why it is not opened
+abbrev pub IsOpenFault : List ℕ → List ℕ → List ℕ → OpenFault → Type 0
+IsOpenFault text inputs outputs NoText = (IsUtf8 inputs → ⊥) ⊎ (IsUtf8 outputs → ⊥)
+IsOpenFault text inputs outputs (Unopened Memory) = Unit {0}
+IsOpenFault text inputs outputs (Unopened fault) =
+    (fed : List (List ℕ)) × (drained : List (List ℕ)) × AreNames inputs fed × AreNames outputs drained × IsUnopened text fed drained fault
+
+-- a text has no names: it is not UTF-8, or memory was refused
+abbrev pub IsNoNames : List ℕ → OpenFault → Type 0
+IsNoNames text NoText = IsUtf8 text → ⊥
+IsNoNames text (Unopened Memory) = Unit {0}
+IsNoNames text (Unopened _) = ⊥
+
+-- what is answered
+abbrev pub answer_of_stream : StreamFault → Answer
+answer_of_stream (Description fault) = AnswerOf fault
+answer_of_stream (Input NoNameMemory) = AnswerOf NoMemory
+answer_of_stream (Input _) = NoInput
+answer_of_stream (Output NoNameMemory) = AnswerOf NoMemory
+answer_of_stream (Output _) = NoOutput
+answer_of_stream Twice = TwiceNamed
+answer_of_stream Memory = AnswerOf NoMemory
+
+abbrev pub answer_of : OpenFault → Answer
+answer_of NoText = NoTextAnswer
+answer_of (Unopened fault) = answer_of_stream fault

@@ -1,0 +1,42 @@
+-- What comes of a text that is run.
+use Rattle.std.specs.Prelude.{◌≡◌, ℕ, true, List, Option, None, Result, Ok, Err, MatchResult, string_bytes}
+use Rattle.kpn_sketch.specs.declared.fault.NetFault.{NetFault}
+use Rattle.kpn_model.specs.declared.history.Entry.{Entry}
+use Rattle.kpn_model.specs.declared.history.End.{End}
+use Rattle.kpn_model.specs.Network.{Family, Network}
+use Rattle.kpn_model.specs.Semantics.{State}
+use Rattle.kpn_model.specs.Determinacy.{IsRun, IsFinal}
+use Rattle.kpn_model.specs.Endings.{MayEnd, has_report}
+use Rattle.kpn_laws.specs.RoomOfRun.{TakesLeastRoom}
+use Rattle.kpn_laws.specs.StreamsOfRun.{ApproachLeastSolution}
+use Rattle.kpn_standard.specs.Standard.{standard}
+use Rattle.kpn_signals.specs.Family.{signals}
+use Rattle.kpn_compute.specs.Both.{both_family}
+use Rattle.kpn_report.specs.Text.{report_text}
+use Rattle.hox_handle.specs.declared.running.Told.{Told}
+use Rattle.hox_handle.specs.Checking.{LoadsText}
+
+abbrev pub all_kinds : Family
+all_kinds = both_family standard signals
+
+-- a run from the start ended for a cause that justifies its end; it took no more room than the network needs, its streams approach the
+-- least solution of the network's equations, and this is its report; if the run is over, every run that is has the same
+pub record IsRunTold (net : Network) (told : Told) : Type 0 where
+  pub history : List Entry
+  pub state : State
+  pub run : IsRun all_kinds net history state
+  pub justified : MayEnd all_kinds net history state told.end
+  pub room : TakesLeastRoom all_kinds net history state
+  pub streams : ApproachLeastSolution all_kinds net history state
+  pub text_is : string_bytes told.report ≡ report_text all_kinds net told.end history state None
+  pub every : has_report told.end ≡ true → (F : List Entry) (N : State) (b : End) → IsFinal all_kinds net F N b → string_bytes told.report ≡ report_text all_kinds net b F N None
+
+-- the network of the text was run
+pub record RunsTo (text : List ℕ) (told : Told) : Type 0 where
+  pub net : Network
+  pub loads : LoadsText text (Ok net)
+  pub run : IsRunTold net told
+
+-- it was run; or it has this fault, or memory was refused
+abbrev pub Runs : List ℕ → Result Told NetFault → Type 0
+Runs text result = MatchResult result (RunsTo text) (λ fault. LoadsText text (Err fault))

@@ -1,0 +1,79 @@
+//! What calls are answered with, and the numbers of it.
+ghost use Rattle.std.specs.Prelude.{◌≡◌};
+ghost use Rattle.hox_handle.specs.Answers.{answer_number, end_number, pause_number};
+
+use kpn_flow::Pause;
+use kpn_model::End;
+use kpn_net::NetFault;
+
+/// What a call is answered with: all went well, or why it was refused.
+#[derive(Clone, Copy, Debug, PartialEq, Eq)]
+pub enum Answer {
+    Done,
+    /// The description has this fault; or memory was refused, as `NetFault::Memory` says it.
+    Description(NetFault),
+    /// The flow is closed.
+    Closed,
+    /// The flow is open already.
+    Open,
+    /// No input, or no output, is at this place or has this name.
+    NoChannel,
+    /// The input has ended.
+    Ended,
+    /// A word for an input of flags is neither 0 nor 1.
+    NoFlag,
+    /// The names are not UTF-8.
+    NoText,
+    /// A channel to be fed does not exist, or its writer does more than to stop.
+    NoInput,
+    /// A channel to be drained does not exist, or its reader does more than to read it.
+    NoOutput,
+    /// A channel is named twice.
+    Twice,
+}
+
+impl Answer {
+    /// Returns the number of an answer: 0 if all went well, 1 to 17 for a fault of the description, and else 32 to 40.
+    pub fn number(self) -> u32
+        ensures { result ≡ answer_number self }
+    {
+        match self {
+            Answer::Done => 0,
+            Answer::Description(fault) => u32::from(fault.number()),
+            Answer::Closed => 32,
+            Answer::Open => 33,
+            Answer::NoChannel => 34,
+            Answer::Ended => 35,
+            Answer::NoFlag => 36,
+            Answer::NoText => 37,
+            Answer::NoInput => 38,
+            Answer::NoOutput => 39,
+            Answer::Twice => 40,
+        }
+    }
+}
+
+/// Returns the number of a pause: 0 to 2, or that of an end.
+pub fn pause_number(pause: Pause) -> u32
+    ensures { result ≡ pause_number pause }
+{
+    match pause {
+        Pause::Cut => 0,
+        Pause::Starved => 1,
+        Pause::Blocked => 2,
+        Pause::Over(end) => end_number(end),
+    }
+}
+
+/// Returns the number of an end, 64 to 68.
+pub fn end_number(end: End) -> u32
+    ensures { result ≡ end_number end }
+{
+    match end {
+        End::Terminated => 64,
+        End::Deadlock => 65,
+        End::Ceiling => 66,
+        End::Budget => 67,
+        End::Memory => 68,
+    }
+}

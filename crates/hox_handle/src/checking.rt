@@ -1,0 +1,29 @@
+//! Checking a description.
+ghost use Rattle.hox_handle.specs.Checking.{Checks, LoadsText};
+
+use crate::answers::Answer;
+use hox_network::{AllKinds, load_by_ports};
+use kpn_net::{Net, NetFault};
+use std::alloc::Global;
+
+/// The network of a description.
+pub(crate) fn net_of(alloc: Global, text: &[u8]) -> Result<Net<AllKinds>, NetFault>
+    ensures { LoadsText text.now result }
+{
+    let mut source = text;
+    let loaded: Result<Net<AllKinds>, _> = load_by_ports(alloc, &mut source);
+    match loaded {
+        Ok(net) => Ok(net),
+        Err(refused) => Err(refused.fault),
+    }
+}
+
+/// Checks a description. Returns `Done` if it describes a network, and else its fault.
+pub fn check(alloc: Global, text: &[u8]) -> Answer
+    ensures { Checks text.now result }
+{
+    match net_of(alloc, text) {
+        Ok(_) => Answer::Done,
+        Err(fault) => Answer::Description(fault),
+    }
+}

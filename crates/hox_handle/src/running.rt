@@ -1,0 +1,75 @@
+//! Running the network of a description from its start to its end.
+ghost use Rattle.std.specs.Prelude.{IfOk, IsSome};
+ghost use Rattle.hox_handle.specs.Running.{IsRunTold, Runs};
+
+use crate::checking::net_of;
+use hox_network::AllKinds;
+use kpn_compute::{CardBody, bodies_of};
+use kpn_laws::{determinacy_of, least_room_of, least_solution_of};
+use kpn_machine::{Chronicle, Machine};
+use kpn_model::End;
+use kpn_net::{Net, NetFault};
+use kpn_report::{Tallied, places_of, text_of_entries};
+use std::alloc::{AllocError, Global};
+
+/// How a run ended, and its report.
+#[derive(Drop)]
+pub struct Told {
+    pub end: End,
+    pub report: String,
+}
+
+/// Runs the network of a description from its start to its end, in the calling thread, within the description's budget.
+///
+/// Errors: the fault of the description; or `Memory`, if memory was refused before the run or for the report.
+pub fn run(alloc: Global, text: &[u8]) -> Result<Told, NetFault>
+    ensures { Runs text.now result }
+{
+    let net = net_of(alloc, text)?;
+    match run_net(alloc, net) {
+        Ok(told) => Ok(told),
+        Err(_) => Err(NetFault::Memory),
+    }
+}
+
+/// Runs a network.
+fn run_net(alloc: Global, net: Net<AllKinds>) -> Result<Told, AllocError>
+    ensures { IfOk result (IsRunTold net) }
+{
+    let bodies = bodies_of(alloc, &net)?;
+    run_bodies(alloc, net, bodies)
+}
+
+/// Runs a network with these bodies.
+fn run_bodies(
+    alloc: Global,
+    net: Net<AllKinds>,
+    bodies: Vec<CardBody<AllKinds>>,
+) -> Result<Told, AllocError>
+    ensures { IfOk result (IsRunTold net) }
+{
+    let opened = Machine::<CardBody<AllKinds>, Tallied>::open_with_keeper(alloc, net, bodies);
+    let Ok(mut machine) = opened else {
+        return Err(AllocError);
+    };
+    machine.finish_alone();
+    told_of(alloc, &machine.into_chronicle())
+}
+
+/// What is told of a run that ended.
+fn told_of(alloc: Global, chronicle: &Chronicle<AllKinds, Tallied>) -> Result<Told, AllocError>
+    requires { IsSome chronicle.now.end }
+    ensures { IfOk result (IsRunTold chronicle.now.network) }
+{
+    let Some(end) = chronicle.end() else {
+        unreachable!()
+    };
+    determinacy_of::<AllKinds>();
+    least_room_of::<AllKinds>();
+    least_solution_of::<AllKinds>();
+    let net = chronicle.net();
+    let places = places_of(alloc, net, chronicle.standings())?;
+    let entries = chronicle.keeper();
+    let report = text_of_entries(alloc, net, entries, places.as_slice(), end, None)?;
+    Ok(Told { end, report })
+}

@@ -1,0 +1,108 @@
+//! Texts for buffers of callers: reports, and what is wrong.
+ghost use Rattle.hox_handle.specs.Texts.{IsCopied};
+
+use crate::names::names_in;
+use crate::opening::OpenFault;
+use hox_network::{AllKinds, KINDS, sketch_by_ports};
+use hox_stream::{NameFault, StreamFault};
+use kpn_message::{message_of, message_of_sketch};
+use kpn_net::NetFault;
+use std::alloc::{AllocError, Global};
+use std::fmt::Write;
+
+/// Copies bytes to the front of a buffer, as many as it is long, and returns how many there are.
+pub fn copy_out(bytes: &[u8], buffer: &mut [u8]) -> usize
+    ensures { IsCopied bytes.now buffer.old buffer.new result }
+{
+    let count = bytes.len().min(buffer.len());
+    buffer[..count].copy_from_slice(&bytes[..count]);
+    bytes.len()
+}
+
+/// Returns what is wrong with a description that has a fault, and where, on one line that no line feed ends; `None` if the
+/// fault says all, or memory was refused.
+pub fn message_of_fault(alloc: Global, text: &[u8], fault: NetFault) -> Option<String> {
+    if matches!(fault, NetFault::Memory | NetFault::Input) {
+        return None;
+    }
+    match sketch_by_ports::<AllKinds>(alloc, text) {
+        Some(sketch) => message_of_sketch::<AllKinds>(alloc, &sketch, fault, KINDS),
+        None => message_of::<AllKinds>(alloc, text, fault, KINDS),
+    }
+}
+
+impl OpenFault {
+    /// Returns what is wrong, on one line that no line feed ends, given what the session was to be opened of; `None` if
+    /// the number of the answer says all, or memory was refused.
+    pub fn message(
+        &self,
+        alloc: Global,
+        text: &[u8],
+        inputs: &[u8],
+        outputs: &[u8],
+    ) -> Option<String> {
+        match self {
+            OpenFault::NoText => String::from_str(alloc, "the names are not UTF-8").ok(),
+            OpenFault::Unopened(fault) => match fault {
+                StreamFault::Description(fault) => message_of_fault(alloc, text, *fault),
+                StreamFault::Input(fault) => message_of_end(alloc, &INPUT, inputs, fault),
+                StreamFault::Output(fault) => message_of_end(alloc, &OUTPUT, outputs, fault),
+                StreamFault::Twice => String::from_str(alloc, "a channel is named twice").ok(),
+                StreamFault::Memory => None,
+            },
+        }
+    }
+}
+
+/// The words for one sort of ends: what one is called, and what is wrong with the process at its outer end.
+struct EndWords {
+    end: &'static str,
+    process: &'static str,
+    wrong: &'static str,
+}
+
+const INPUT: EndWords = EndWords {
+    end: "input",
+    process: "writer",
+    wrong: "does more than to stop; let its kind be input, or input_flags",
+};
+
+const OUTPUT: EndWords = EndWords {
+    end: "output",
+    process: "reader",
+    wrong: "takes its tokens; let a copy write them also to a channel that a drain reads",
+};
+
+/// What is wrong with the end whose name stands at a place of a text.
+fn message_of_end(
+    alloc: Global,
+    words: &EndWords,
+    names: &[u8],
+    fault: &NameFault,
+) -> Option<String> {
+    let names = names_in(alloc, names).ok()?;
+    match fault {
+        NameFault::NoChannel(place) => no_channel(alloc, words, names.get(*place)?.as_str()).ok(),
+        NameFault::Busy(place, process) => {
+            let (name, process) = (names.get(*place)?.as_str(), process.as_str());
+            busy(alloc, words, name, process).ok()
+        }
+        NameFault::Memory => None,
+    }
+}
+
+/// That no channel has a name.
+fn no_channel(alloc: Global, words: &EndWords, name: &str) -> Result<String, AllocError> {
+    let mut out = String::new(alloc);
+    let end = words.end;
+    write!(out, "{end} {name}: no channel has this name")?;
+    Ok(out)
+}
+
+/// That the process at the outer end of a channel does more than to stop.
+fn busy(alloc: Global, words: &EndWords, name: &str, process: &str) -> Result<String, AllocError> {
+    let mut out = String::new(alloc);
+    let (end, at, wrong) = (words.end, words.process, words.wrong);
+    write!(out, "{end} {name}: its {at}, {process}, {wrong}")?;
+    Ok(out)
+}

@@ -1,0 +1,97 @@
+//! Words, as callers have them, and the tokens that they stand for.
+ghost use Rattle.std.specs.Prelude.{◌≡◌, true, IfSome, IfNone};
+ghost use Rattle.kpn_model.specs.Families.{family};
+ghost use Rattle.kpn_model.specs.Valid.{IsOfSort};
+ghost use Rattle.kpn_flow.specs.Flows.{is_among};
+ghost use Rattle.hox_handle.specs.Words.{word_of, Drains, Feeds, IsNoFlag};
+
+use crate::answers::Answer;
+use kpn_body::Body;
+use kpn_flow::Flow;
+use kpn_model::{Sort, Token};
+
+/// How many words were fed or drained, and the answer.
+#[derive(Clone, Copy, Debug, PartialEq, Eq)]
+pub struct Moved {
+    pub count: usize,
+    pub answer: Answer,
+}
+
+/// The token of a word on a channel of this sort; `None` if it is no flag where flags go.
+fn token_of(sort: Sort, word: u64) -> Option<Token>
+    ensures sort { IfSome result (IsOfSort sort) }
+    ensures word { IfSome result (λ token. word_of token ≡ word) }
+    ensures none { IfNone result (IsNoFlag sort word) }
+{
+    match sort {
+        Sort::Words => Some(Token::Word(word)),
+        Sort::Flags => match word {
+            0 => Some(Token::Flag(false)),
+            1 => Some(Token::Flag(true)),
+            _ => None,
+        },
+    }
+}
+
+/// The word of a token.
+fn word_of(token: Token) -> u64
+    ensures { result ≡ word_of token }
+{
+    match token {
+        Token::Word(word) => word,
+        Token::Flag(false) => 0,
+        Token::Flag(true) => 1,
+    }
+}
+
+/// Feeds words into an input, in order, as many as it has room for. The answer is `Done` if all were fed or it is full,
+/// `NoFlag` if the next is no flag where flags go, and `Ended` if the channel is no input, or has ended.
+pub(crate) fn feed_words<B: Body>(flow: &mut Flow<B>, channel: usize, words: &[u64]) -> Moved
+    ensures { Feeds (family B.Kinds.Kinds) flow.old flow.new channel words.now result }
+{
+    if !flow.is_input(channel) {
+        return Moved {
+            count: 0,
+            answer: Answer::Ended,
+        };
+    }
+    flow.assure_one_run();
+    let sort = flow.net().sort(channel);
+    let mut count = 0;
+    while count < words.len() {
+        let Some(token) = token_of(sort, words[count]) else {
+            return Moved {
+                count,
+                answer: Answer::NoFlag,
+            };
+        };
+        if !flow.feed(channel, token) {
+            return Moved {
+                count,
+                answer: Answer::Done,
+            };
+        }
+        count += 1;
+    }
+    Moved {
+        count,
+        answer: Answer::Done,
+    }
+}
+
+/// Moves the first words of an output to the front of a buffer, in order, as many as there are and as it is long, and
+/// returns how many.
+pub(crate) fn drain_words<B: Body>(flow: &mut Flow<B>, channel: usize, words: &mut [u64]) -> usize
+    requires { is_among flow.old.outputs channel ≡ true }
+    ensures { Drains (family B.Kinds.Kinds) flow.old flow.new channel words.old words.new result }
+{
+    let mut count = 0;
+    while count < words.len() {
+        let Some(token) = flow.drain(channel) else {
+            return count;
+        };
+        words[count] = word_of(token);
+        count += 1;
+    }
+    count
+}

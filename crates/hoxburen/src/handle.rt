@@ -1,0 +1,83 @@
+//! A session behind a pointer that the caller keeps.
+ghost use Rattle.std.specs.Prelude.{◌≡◌, Option, None, Some, MatchOption};
+ghost use Rattle.kpn_flow.specs.Flows.{FlowView};
+ghost use Rattle.hoxburen.specs.Handles.{holds, kept_coded};
+
+use crate::parts::Parts;
+use hox_handle::Session;
+use std::alloc::Global;
+use std::marker::Model;
+use std::mem;
+use std::ptr::null_mut;
+
+/// A flow that the caller keeps: closed at null, and else the pointer of a box in which its session is. All bytes 0 is a
+/// closed one. `kept` is the session of an open one.
+#[repr(C)]
+pub struct HoxFlow {
+    at: *mut u8,
+    alloc: Global,
+    pub ghost kept: { Option FlowView } by { kept_coded },
+}
+
+impl Model for HoxFlow {
+    ghost also_owns = { λ h. holds h.alloc h.at h.kept };
+}
+
+impl HoxFlow {
+    /// A closed flow.
+    fn closed(alloc: Global) -> HoxFlow
+        ensures { result.kept ≡ None }
+    {
+        HoxFlow {
+            at: null_mut(),
+            alloc,
+        }
+    }
+
+    /// An open flow, of the parts of a box.
+    fn of_parts(parts: Parts<Session, Global>) -> HoxFlow
+        ensures { result.kept ≡ Some parts.value }
+    {
+        let Parts { ptr, alloc } = parts;
+        HoxFlow {
+            at: ptr as *mut u8,
+            alloc,
+        }
+    }
+
+    /// The parts of the box, if the flow is open.
+    fn into_parts(self) -> Option<Parts<Session, Global>>
+        ensures { MatchOption result (self.kept ≡ None) (λ parts. self.kept ≡ Some parts.value) }
+    {
+        let HoxFlow { at, alloc } = self;
+        if at.is_null() {
+            None
+        } else {
+            Some(Parts {
+                ptr: at as *mut Session,
+                alloc,
+            })
+        }
+    }
+
+    /// Takes the session out of an open flow, which is then closed; `None` if it is closed.
+    pub(crate) fn take(&mut self, alloc: Global) -> Option<Box<Session>>
+        ensures closed { self.new.kept ≡ None }
+        ensures taken { MatchOption result (self.old.kept ≡ None) (λ session. self.old.kept ≡ Some session.value) }
+    {
+        match mem::replace(self, HoxFlow::closed(alloc)).into_parts() {
+            Some(parts) => Some(parts.into_box()),
+            None => None,
+        }
+    }
+
+    /// Puts a session into a flow, which is then open. One that was there is dropped.
+    pub(crate) fn put(&mut self, session: Box<Session>)
+        ensures { self.new.kept ≡ Some session.value }
+    {
+        match mem::replace(self, HoxFlow::of_parts(Parts::of(session))).into_parts() {
+            Some(parts) => drop(parts.into_box()),
+            None => {}
+        }
+    }
+}

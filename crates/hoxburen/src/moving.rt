@@ -1,0 +1,85 @@
+//! Feeding and draining a flow, and letting it go on.
+ghost use Rattle.std.specs.Prelude.{◌≡◌, ⊤};
+ghost use Rattle.hoxburen.specs.Calls.{Advances, DrainsWords, EndsInput, FeedsWords, OnFlow};
+
+use crate::handle::HoxFlow;
+use hox_handle::{Answer, pause_number};
+use std::alloc::Global;
+
+/// Feeds words into the input at a place; `fed` is how many were taken.
+#[unsafe(no_mangle)]
+pub extern "C" fn hox_feed(
+    alloc: Global,
+    flow: &mut HoxFlow,
+    input: usize,
+    words: &[u64],
+    fed: &mut usize,
+) -> u32
+    ensures { OnFlow flow.old.kept flow.new.kept result (fed.new ≡ 0) (λ s t. FeedsWords s t input words.now fed.new result) }
+{
+    *fed = 0;
+    match flow.take(alloc) {
+        Some(mut session) => {
+            let moved = session.feed(input, words);
+            flow.put(session);
+            *fed = moved.count;
+            moved.answer.number()
+        }
+        None => Answer::Closed.number(),
+    }
+}
+
+/// Goes on by at most `most` entries; `pause` is why it came back.
+#[unsafe(no_mangle)]
+pub extern "C" fn hox_advance(alloc: Global, flow: &mut HoxFlow, most: u64, pause: &mut u32) -> u32
+    ensures { OnFlow flow.old.kept flow.new.kept result (pause.new ≡ 0) (λ s t. Advances s t most pause.new result) }
+{
+    *pause = 0;
+    match flow.take(alloc) {
+        Some(mut session) => {
+            let why = session.advance(most);
+            flow.put(session);
+            *pause = pause_number(why);
+            Answer::Done.number()
+        }
+        None => Answer::Closed.number(),
+    }
+}
+
+/// Moves the first words of the output at a place to the front of a buffer; `drained` is how many.
+#[unsafe(no_mangle)]
+pub extern "C" fn hox_drain(
+    alloc: Global,
+    flow: &mut HoxFlow,
+    output: usize,
+    words: &mut [u64],
+    drained: &mut usize,
+) -> u32
+    ensures { OnFlow flow.old.kept flow.new.kept result ((drained.new ≡ 0) × (words.new ≡ words.old)) (λ s t. DrainsWords s t output words.old words.new drained.new result) }
+{
+    *drained = 0;
+    match flow.take(alloc) {
+        Some(mut session) => {
+            let moved = session.drain(output, words);
+            flow.put(session);
+            *drained = moved.count;
+            moved.answer.number()
+        }
+        None => Answer::Closed.number(),
+    }
+}
+
+/// Says that the input at a place has ended.
+#[unsafe(no_mangle)]
+pub extern "C" fn hox_end_input(alloc: Global, flow: &mut HoxFlow, input: usize) -> u32
+    ensures { OnFlow flow.old.kept flow.new.kept result ⊤ (λ s t. EndsInput s t input result) }
+{
+    match flow.take(alloc) {
+        Some(mut session) => {
+            let answer = session.end_input(input);
+            flow.put(session);
+            answer.number()
+        }
+        None => Answer::Closed.number(),
+    }
+}

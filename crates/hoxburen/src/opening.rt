@@ -1,0 +1,138 @@
+//! Opening and closing a flow, and finding its channels.
+ghost use Rattle.std.specs.Prelude.{◌≡◌, None, IfErr, IfNone, IfOk, IfSome};
+ghost use Rattle.hox_handle.specs.Answers.{answer_number};
+ghost use Rattle.hox_handle.specs.Opening.{IsOpenFault, Opens};
+ghost use Rattle.hoxburen.specs.Calls.{close_number, FindsPlace, IsMessage, LooksAt, OpensFlow};
+
+use crate::handle::HoxFlow;
+use crate::slices::bytes_of;
+use hox_handle::{Answer, OpenFault, Session, copy_out};
+use hox_stream::StreamFault;
+use std::alloc::Global;
+
+/// Opens a flow that is closed: the network of a description, at its start, between the channels whose names stand in two
+/// texts, with white space between them. What is wrong goes into the buffer, and how long that is to `length`.
+#[unsafe(no_mangle)]
+pub extern "C" fn hox_open(
+    alloc: Global,
+    flow: &mut HoxFlow,
+    text: &[u8],
+    inputs: &[u8],
+    outputs: &[u8],
+    message: &mut [u8],
+    length: &mut usize,
+) -> u32
+    ensures opened { OpensFlow text.now inputs.now outputs.now flow.old.kept flow.new.kept result }
+    ensures message { IsMessage message.old message.new length.new }
+{
+    *length = 0;
+    match flow.take(alloc) {
+        Some(session) => {
+            flow.put(session);
+            Answer::Open.number()
+        }
+        None => {
+            let (text, inputs, outputs) = (bytes_of(text), bytes_of(inputs), bytes_of(outputs));
+            match open_boxed(alloc, text, inputs, outputs) {
+                Ok(session) => {
+                    flow.put(session);
+                    Answer::Done.number()
+                }
+                Err(fault) => {
+                    if let Some(said) = fault.message(alloc, text, inputs, outputs) {
+                        *length = copy_out(said.as_bytes(), message);
+                    }
+                    fault.answer().number()
+                }
+            }
+        }
+    }
+}
+
+/// A session in a box.
+fn open_boxed(
+    alloc: Global,
+    text: &[u8],
+    inputs: &[u8],
+    outputs: &[u8],
+) -> Result<Box<Session>, OpenFault>
+    ensures ok { IfOk result (λ session. Opens text.now inputs.now outputs.now session.value) }
+    ensures fault { IfErr result (IsOpenFault text.now inputs.now outputs.now) }
+{
+    let session = Session::open(alloc, text, inputs, outputs)?;
+    match Box::new(alloc, session) {
+        Ok(session) => Ok(session),
+        Err(_) => Err(OpenFault::Unopened(StreamFault::Memory)),
+    }
+}
+
+/// Closes a flow.
+#[unsafe(no_mangle)]
+pub extern "C" fn hox_close(alloc: Global, flow: &mut HoxFlow) -> u32
+    ensures closed { flow.new.kept ≡ None }
+    ensures answer { result ≡ close_number flow.old.kept }
+{
+    match flow.take(alloc) {
+        Some(_) => Answer::Done.number(),
+        None => Answer::Closed.number(),
+    }
+}
+
+/// Finds the place of the input of a name.
+#[unsafe(no_mangle)]
+pub extern "C" fn hox_input(
+    alloc: Global,
+    flow: &mut HoxFlow,
+    name: &[u8],
+    input: &mut usize,
+) -> u32
+    ensures { LooksAt flow.old.kept flow.new.kept result (input.new ≡ 0) (λ s. FindsPlace s.network s.inputs name.now input.new result) }
+{
+    *input = 0;
+    match flow.take(alloc) {
+        Some(session) => {
+            let found = session.input_named(bytes_of(name));
+            flow.put(session);
+            place_told(found, input)
+        }
+        None => Answer::Closed.number(),
+    }
+}
+
+/// Finds the place of the output of a name.
+#[unsafe(no_mangle)]
+pub extern "C" fn hox_output(
+    alloc: Global,
+    flow: &mut HoxFlow,
+    name: &[u8],
+    output: &mut usize,
+) -> u32
+    ensures { LooksAt flow.old.kept flow.new.kept result (output.new ≡ 0) (λ s. FindsPlace s.network s.outputs name.now output.new result) }
+{
+    *output = 0;
+    match flow.take(alloc) {
+        Some(session) => {
+            let found = session.output_named(bytes_of(name));
+            flow.put(session);
+            place_told(found, output)
+        }
+        None => Answer::Closed.number(),
+    }
+}
+
+/// Tells a place that was found, or that none was.
+fn place_told(found: Option<usize>, place: &mut usize) -> u32
+    ensures found { IfSome found (λ k. (place.new ≡ k) × (result ≡ 0)) }
+    ensures none { IfNone found ((place.new ≡ 0) × (result ≡ answer_number Answer.NoChannel)) }
+{
+    match found {
+        Some(k) => {
+            *place = k;
+            Answer::Done.number()
+        }
+        None => {
+            *place = 0;
+            Answer::NoChannel.number()
+        }
+    }
+}
