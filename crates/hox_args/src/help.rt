@@ -6,50 +6,50 @@ Example, in which channel x gets a token of each line of noisy.txt and channel y
   hox run low_pass.toml --tokens x=noisy.txt --out y=smooth.txt
 
 Exit status:
-  0  the run finished or ran dry, the description was accepted, the picture was drawn, or help was asked for
-  1  the words were refused, or no channel has a name that they give
-  2  the description or a file of tokens was refused
-  3  the budget of entries was spent: the run was cut
-  4  memory was refused
+  0  the run finished or ran dry, the description is valid, the picture was drawn, or help was asked for
+  1  the arguments are wrong, or name an unknown channel
+  2  the description or a file of tokens is wrong
+  3  the budget of entries is spent: the run was cut
+  4  out of memory
   5  processes wait for one another in a circle
-  6  a channel would have grown past its ceiling: it is full
-  7  writing failed
+  6  a full channel would have to grow past its ceiling
+  7  a write failed
   8  internal error: a worker's answer was rejected; the run was abandoned
 ";
 
 /// The syntax of descriptions and token files, for the help of the subcommands.
 pub const KINDS_AND_FILES: &str = "\
-A file of tokens has one a line: a word in decimal, as 21 or -21, or in hexadecimal after 0x, from -2^63 to
-2^64 - 1; a flag as true or false. A word has 64 bits in two's complement: -1 and 18446744073709551615 are the same
-word, which is written -1 (--unsigned CHANNEL writes the other). What stands after a comma or after # is ignored,
-and so is a line without a token. There may be 1,000,000 tokens, and in version 1 of the description 65,535: files
-without end are for hox stream. The channel's capacity is at least their number.
+A file of tokens has one on each line: a word from -2^63 to 2^64 - 1 in decimal, such as 21 or -21, or in hexadecimal
+after 0x; or a flag, true or false. A word has 64 bits in two's complement: -1 and 18446744073709551615 are the same
+word, written as -1 (--unsigned CHANNEL writes the other). The rest of a line after a comma or # is ignored, and so
+is a line without a token. A file may have 1,000,000 tokens, 65,535 in version 1 of the description; hox stream
+takes any number. The channel's capacity becomes at least their number.
 
---format CHANNEL=FORMAT[,KEY[=VALUE]..] says how the file of a channel has tokens otherwise, once for each channel
-(or all), and with each key once. The formats, and keys:
+--format CHANNEL=FORMAT[,KEY[=VALUE]..] sets another format for the file of a channel, or of all channels (all).
+The formats, and their keys:
   text            digits=N (after the point: with 2, 21.37 is the word 2137), unsigned
   csv             column=N (from 1) or column=NAME, header (a row of names), delimiter=comma, semicolon or tab,
                   digits=N, unsigned
   wav             channel=N (from 1), bits=8, 16, 24 or 32, rate=N (samples a second), clip
   s16le           channel=N, channels=N, clip; also s8, u8, and s16, s24, s32, s64 and u64, with le or be
-A file whose name ends in .wav is WAV if nothing is said. A word that has no sample is refused, or with clip the
-nearest is written. One file has several channels side by side, as columns or as channels of samples, where it is
-given for several, as --out left,right=out.wav.
+A file whose name ends in .wav is WAV by default. A word that doesn't fit a sample is an error; with clip the nearest
+sample is written. A file that is given for several channels, as in --out left,right=out.wav, has them side by side,
+as columns or as channels of samples.
 
-The description is TOML. Its keys, and in brackets what holds if one is absent:
+The description is TOML. Its keys, with their defaults in brackets:
   version         1 or 2
   budget          how many entries a run may have [1000000, in version 2 2000000]
   step            how much a growth adds to a capacity, in version 2 [1]
   [[process]]
-    name, kind    texts; a name has 1 to 16 of a to z, 0 to 9 and _, the first a letter
+    name, kind    strings; a name has 1 to 16 of a to z, 0 to 9 and _, and begins with a letter
     args          the arguments of the kind, integers [none]
   [[channel]]
-    name          as of a process
+    name          like that of a process
     from, to      the names of two processes
     out, in       the port of from and of to [0]
     sort          \"words\" or \"flags\" [that of its two ports]
     capacity      how many tokens it may hold [1]
-    tokens        what it holds at first, in version 2 [nothing]
+    tokens        what it holds at the start, in version 2 [nothing]
 
 Kinds of processes, with their arguments and their ports, inputs -> outputs (w a word, f a flag):
   count FROM N    -> w        writes FROM, FROM + 1, .. (N words), then stops
@@ -85,16 +85,16 @@ Kinds of processes, with their arguments and their ports, inputs -> outputs (w a
   delay N         w -> w      writes for each word the one N before, 0 at first; N from 1 to 4
   low_pass K      w -> w      y += (x - y) / 2^K, rounded down, signed, from y = 0: writes y; K from 0 to 63
   clip LO HI      w -> w      writes the nearest word from LO to HI, signed
-Signed: a word is a number in two's complement, from 2^63 on itself less 2^64. V of constant, hold and prefix, K
-of scale, and LO and HI of clip, may be below 0.
+Signed means two's complement: from 2^63 on, a word stands for itself minus 2^64. V of constant, hold and prefix,
+K of scale, and LO and HI of clip may be negative.
 ";
 
 /// Pictures, for the help of `draw`.
 pub(crate) const PICTURES: &str = "\
 The picture is a text for Graphviz:
   hox draw --run examples/parks.toml | dot -Tsvg > parks.svg
-Where nothing else stands at a channel, it carries words, has capacity 1 and is empty. The exit status is 0
-however the run ended. How a description and a file of tokens are written, hox run --help says.
+Unlabelled channels carry words, have capacity 1 and are empty. The exit status is 0 however the run ended.
+hox run --help describes descriptions and files of tokens.
 ";
 
 /// Streams, for the help of `stream`.
@@ -103,5 +103,5 @@ Example, in a pipe:
   generator | hox stream low_pass.toml --in x=- --out y=- | plot
 Samples of 16 bits in a pipe:
   sox in.wav -t raw -e signed -b 16 -c 1 - | hox stream low_pass.toml --in x=- --out y=- --format all=s16le | ..
-How a description, a file of tokens and its format are written, hox run --help says.
+hox run --help describes descriptions, files of tokens and formats.
 ";

@@ -18,33 +18,33 @@ pub const MAX_WORKERS: usize = 16;
 /// The exit statuses, as help lists them.
 const STATUSES: &str = "\
 Exit status:
-  0  the run terminated, the description was accepted, or help was asked for
-  1  the words were refused, or no channel has the name to show
-  2  the description was refused
-  3  the budget of entries was spent
-  4  memory was refused
+  0  the run terminated, the description is valid, or help was asked for
+  1  the arguments are wrong, or name an unknown channel
+  2  the description is wrong
+  3  the budget of entries is spent
+  4  out of memory
   5  the run ended in a deadlock
-  6  a channel would have grown past its ceiling
-  7  writing failed
+  6  a full channel would have to grow past its ceiling
+  7  a write failed
   8  internal error: a worker's answer was rejected; the run was abandoned
 ";
 
 /// Help on where the description comes from and how to write one.
 const INPUT: &str = "\
-The description is TOML, read from standard input. Its keys, and in brackets what holds if one is absent:
+The description is TOML, read from standard input. Its keys, with their defaults in brackets:
   version         1 or 2
   budget          how many entries a run may have [10000]
   step            how much a growth adds to a capacity, in version 2 [1]
   [[process]]
-    name, kind    texts; a name has 1 to 16 of a to z, 0 to 9 and _, the first a letter
+    name, kind    strings; a name has 1 to 16 of a to z, 0 to 9 and _, and begins with a letter
     args          the arguments of the kind, integers [none]
   [[channel]]
-    name          as of a process
+    name          like that of a process
     from, to      the names of two processes
     out, in       the port of from and of to [0]
     sort          \"words\" or \"flags\" [\"words\"]
     capacity      how many tokens it may hold [1]
-    tokens        what it holds at first, in version 2 [nothing]
+    tokens        what it holds at the start, in version 2 [nothing]
 
 Kinds of processes, with their arguments and their ports, inputs -> outputs (w a word, f a flag):
   count FROM N    -> w        writes FROM, FROM + 1, .. (N words), then stops
