@@ -28,7 +28,6 @@ fn to_the_end(rt: HostRuntime) {
     drop(machine);
 }
 
-/// What `asks` finds while this process is out.
 fn due_beside(process: usize) -> (u64, usize, usize) {
     match process {
         0 => (1, 1, 0),

@@ -1,4 +1,4 @@
-//! Keepers return each entry as it was kept, with numbers above those of any network.
+//! Keepers of entries, with numbers above those of any network.
 ghost use Rattle.std.specs.Prelude.{◌≡◌, ◌≤◌, []};
 
 use crate::checks::same;

@@ -51,7 +51,6 @@ pub(crate) fn take<R: Abort>(rt: &R, machine: &mut CardMachine) -> CardTask {
     machine.take().expect(rt, "no process is ready")
 }
 
-/// Compares that no process can be taken: none is ready, or the run has ended.
 pub(crate) fn take_none<R: Abort>(rt: &R, machine: &mut CardMachine) {
     same(rt, "none is taken", machine.take().is_none(), true);
 }
@@ -84,7 +83,6 @@ pub(crate) fn answer_of<R: Abort>(
     tasks.swap_remove(index).call()
 }
 
-/// Commits an answer that was asked for.
 pub(crate) fn outcome_of<R: Abort>(
     rt: &R,
     machine: &mut CardMachine,
@@ -96,7 +94,6 @@ pub(crate) fn outcome_of<R: Abort>(
         .expect(rt, "the answer of a stranger")
 }
 
-/// Commits an answer that was not asked for, and returns it.
 pub(crate) fn handed_back<R: Abort>(
     rt: &R,
     machine: &mut CardMachine,

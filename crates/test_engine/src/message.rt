@@ -53,7 +53,7 @@ to = \"s1\"
 tokens = []
 ";
 
-/// Edits of the TOML or its keys: the old text, the new one, the fault's number and the message.
+/// Faults of the TOML or its keys.
 static KEYS: [(&str, &str, u8, &str); 15] = [
     (
         "version = 2",
@@ -142,7 +142,7 @@ static KEYS: [(&str, &str, u8, &str); 15] = [
     ),
 ];
 
-/// Edits with a fault of names, kinds, arguments or unused ports.
+/// Faults of names, kinds, arguments or unused ports.
 static PROCESSES: [(&str, &str, u8, &str); 13] = [
     (
         "name = \"src\"",
@@ -224,7 +224,7 @@ static PROCESSES: [(&str, &str, u8, &str); 13] = [
     ),
 ];
 
-/// Edits with a fault of channels, of the budget or of the step.
+/// Faults of channels, of the budget or of the step.
 static CHANNELS: [(&str, &str, u8, &str); 14] = [
     (
         "from = \"src\"",
@@ -312,7 +312,6 @@ static CHANNELS: [(&str, &str, u8, &str); 14] = [
     ),
 ];
 
-/// Whole texts, with the fault's number and the message.
 static TEXTS: [(&str, u8, &str); 14] = [
     (
         "version = 1\n[[process]\n",
@@ -383,7 +382,7 @@ fn net_of(alloc: Global, text: &[u8]) -> Result<Net<Standard>, NetFault> {
     Net::check(alloc, &sketch)
 }
 
-/// Compares the fault's number and message; the sketch, if there is one, gives the same message.
+/// Compares a fault's number and its message, of the text and of the sketch if there is one.
 fn tells<R: Abort>(rt: &R, alloc: Global, text: &[u8], number: u8, message: &str) {
     let fault = net_of(alloc, text).err().expect(rt, message);
     let told = message_of::<Standard>(alloc, text, fault, KINDS).expect(rt, message);
@@ -399,7 +398,7 @@ fn tells<R: Abort>(rt: &R, alloc: Global, text: &[u8], number: u8, message: &str
     }
 }
 
-/// The old text, the new one, the fault's number and the message.
+/// The old text, the new one, the fault's number, the message.
 type Edit = (&'static str, &'static str, u8, &'static str);
 
 fn tells_of_edit<R: Abort>(rt: &R, alloc: Global, edit: &Edit) {
@@ -451,7 +450,7 @@ fn the_line_of_a_table_is_that_of_its_header(rt: HostRuntime) {
     same(&rt, "one without a header", line_of(5, 0), None);
 }
 
-/// The faults without a message, with their numbers and lines.
+/// The faults without a message.
 static PLAIN: [(NetFault, u8, &str); 2] = [
     (NetFault::Memory, 14, "out of memory"),
     (
@@ -517,7 +516,7 @@ process = [{ name = \"src\", kind = \"cuont\", args = [1, 3] }, { name = \"snk\"
 channel = [{ name = \"c0\", from = \"src\", to = \"snk\", capacity = 0 }]
 ";
 
-/// The messages of `FAULTY`, beginning with the fault that a check returns.
+/// The first belongs to the fault that a check returns.
 static MESSAGES: [&str; 5] = [
     "process \"src\": unknown kind \"cuont\"; the kinds are count and sink",
     "process \"snk\": args has length 0, but kind \"sink\" takes 1",

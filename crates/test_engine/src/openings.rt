@@ -37,7 +37,6 @@ fn the_parts_of_a_fresh_machine_open_again(rt: HostRuntime) {
     drop(machine);
 }
 
-/// An opening that fails: the fault with its number, and the cards of the bodies.
 #[derive(Clone, Copy)]
 pub(crate) struct Misfit {
     pub(crate) name: &'static str,

@@ -16,7 +16,7 @@ const HEAD: &str = r##"digraph kpn {
   edge [color="#44546a", fontcolor="#44546a", fontname="Helvetica", fontsize=11, labelfontsize=9, labeldistance=1.5, labelangle=25];
 "##;
 
-/// Draws a network with nothing known of a run but its end, if it has one.
+/// Draws a network; of a run only its end is known.
 fn picture_of_start<R: Abort>(
     rt: &R,
     alloc: Global,
@@ -115,7 +115,6 @@ channel = [
 ]
 "#;
 
-/// Where a run of `LOOP` leaves its processes.
 pub(crate) static LOOP_PLACES: [Place; 4] = [
     Place::Stopped,
     Place::Reads(1),

@@ -19,7 +19,6 @@ enum Refused {
     Growth,
 }
 
-/// What an opening that is out of memory returns.
 static NO_MEMORY: Misfit = Misfit {
     name: "no memory",
     fault: OpenFault::Memory,
@@ -48,7 +47,7 @@ fn open_again<R: Abort>(rt: &R, alloc: Global, parts: Parts) -> (CardMachine, Re
     }
 }
 
-/// Commits the answers up to the one that needs a growth, and returns whether the growth failed.
+/// Commits the answers up to the one that needs a growth, and returns whether that failed.
 fn grow<R: Abort>(rt: &R, machine: &mut CardMachine, tasks: &mut Vec<CardTask>) -> bool {
     for process in [0, 1, 0, 1] {
         let outcome = commit_of(rt, machine, tasks, process);

@@ -135,7 +135,6 @@ fn go_out<R: Abort>(rt: &R, machine: &mut CardMachine, tasks: &mut Vec<CardTask>
     take_none(rt, machine);
 }
 
-/// Commits both answers, and then those up to the end.
 fn come_back<R: Abort>(rt: &R, machine: &mut CardMachine, tasks: &mut Vec<CardTask>) {
     commit_of(rt, machine, tasks, 1);
     assert_stand(rt, machine, &SINK_WAITS, "the sink waits");

@@ -15,14 +15,13 @@ fn assert_sent<R: Abort>(rt: &R, machine: &CardMachine, task: &CardTask)
     assert!(rt; machine.has_sent(task));
 }
 
-/// Asks a task that is out, and commits its answer in place.
 fn go_on<R: Abort>(rt: &R, machine: &mut CardMachine, task: &mut CardTask, due: Option<Outcome>) {
     assert_sent(rt, machine, task);
     let answer = task.ask();
     same(rt, "outcome", machine.commit_on(task, answer), due);
 }
 
-/// Compares a machine whose counter is out with its second task, after its first answer.
+/// The counter is out with its second task.
 fn assert_second<R: Abort>(rt: &R, machine: &CardMachine, task: &CardTask) {
     let held = (task.process(), task.local(), task.last());
     same(rt, "held", held, (0, [1, 0, 0, 0], None));
@@ -32,7 +31,6 @@ fn assert_second<R: Abort>(rt: &R, machine: &CardMachine, task: &CardTask) {
     same(rt, "counts", counts, (1, 1, 1));
 }
 
-/// Takes the task back without an answer, and runs to the end.
 fn come_back<R: Abort>(rt: &R, machine: &mut CardMachine, task: CardTask) {
     assert_sent(rt, machine, &task);
     machine.take_back(task);
@@ -44,8 +42,7 @@ fn come_back<R: Abort>(rt: &R, machine: &mut CardMachine, task: CardTask) {
     same(rt, "entries", machine.history().len(), 8);
 }
 
-/// A counter writes its first word and goes out again at once. Its channel has room for one, so its second
-/// answer can't be done, and nothing changes.
+/// The channel has room for one word, so the counter's second answer can't be done, and nothing changes.
 #[test]
 fn a_counter_goes_on_until_its_channel_is_full(rt: HostRuntime) {
     let mut machine = machine_of(&rt, rt.alloc(), SINK_OF_THREE);

@@ -50,7 +50,6 @@ fn assert_first_answer<R: Abort>(rt: &R, finished: &CardFinished) {
     same(rt, "last", finished.last(), None);
 }
 
-/// Compares a machine that has taken the counter's first answer alone.
 fn assert_one_commit<R: Abort>(rt: &R, machine: &CardMachine) {
     same(rt, "history", machine.history(), [PUT_1].as_slice());
     same(rt, "commits", machine.commits(), 1);
@@ -69,7 +68,6 @@ fn refuse_again<R: Abort>(
     finished
 }
 
-/// Takes both processes, and returns the counter's answer.
 fn counter_answers<R: Abort>(rt: &R, alloc: Global, machine: &mut CardMachine) -> CardFinished {
     let mut tasks = Vec::new(alloc);
     take_all(rt, machine, &mut tasks);
@@ -82,7 +80,6 @@ fn accept_first<R: Abort>(rt: &R, machine: &mut CardMachine, finished: CardFinis
     assert_one_commit(rt, machine);
 }
 
-/// Commits the counter's first answer to a fresh machine: it comes back, and nothing changes.
 fn refuse_fresh<R: Abort>(
     rt: &R,
     machine: &mut CardMachine,
@@ -150,7 +147,6 @@ fn park_second<R: Abort>(rt: &R, alloc: Global, machine: &mut CardMachine) {
     same(rt, "outcome", outcome, Parked(0));
 }
 
-/// Commits to the second machine the counter's answer from the first, and then its own.
 fn ask_both<R: Abort>(rt: &R, alloc: Global, one: &mut CardMachine, other: &mut CardMachine) {
     let finished = counter_answers(rt, alloc, one);
     let own = counter_answers(rt, alloc, other);

@@ -1,4 +1,4 @@
-//! Files of tokens. Values due are worked out by hand, or by Python's struct, wave and csv modules.
+//! Files of tokens. Values due are worked out by hand, or with Python's struct, wave and csv modules.
 use crate::checks::same;
 use kpn_tokens::{Layout, Sort, Token, append_tokens, read_tokens};
 use std::alloc::Global;

@@ -67,7 +67,6 @@ pub(crate) fn drain<R: Abort>(rt: &R, flow: &mut CardFlow, channel: usize) -> Op
     flow.drain(channel)
 }
 
-/// Drains an output into a buffer, and returns how many tokens came.
 pub(crate) fn drain_buffer<R: Abort>(
     rt: &R,
     flow: &mut CardFlow,

@@ -41,7 +41,6 @@ fn fresh<R: Abort>(rt: &R, alloc: Global) -> Parts {
     parts_of(rt, alloc, SCALE).expect(rt, "no memory for the parts")
 }
 
-/// Inputs, outputs, and their fault.
 static FAULTS: [(&[usize], &[usize], FlowFault); 8] = [
     (&[2], &[], FlowFault::Channel),
     (&[], &[1, 2], FlowFault::Channel),

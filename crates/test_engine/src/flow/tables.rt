@@ -80,7 +80,7 @@ fn paired<'a, R: Abort>(
     serve(alloc, stream, sources, outlets, tables).expect(rt, "no memory")
 }
 
-/// How many tokens a column took, and how many of them were clipped; `None` if there is no such column.
+/// The tokens that a column took, and those of them that were clipped.
 fn counted(table: &TableOutlet<Vec<u8>>, place: usize) -> Option<(u64, u64)> {
     if place < table.width() {
         Some((table.tokens(place), table.clipped(place)))
@@ -224,7 +224,7 @@ channel = [
 ]
 "#;
 
-/// Streams this many words through `APART`, and returns how that ends and how many bytes the table has.
+/// Streams words through `APART`, and returns how that ends and the bytes of the table.
 fn apart<R: Abort>(rt: &R, alloc: Global, words: usize) -> (Finish, usize) {
     let mut text = Vec::new(alloc);
     for _ in 0..words {

@@ -1,4 +1,5 @@
-//! What each kind for signals writes, by hand and by tests/interpreter.py; names, arguments, ports and help.
+//! What each kind for signals writes, worked out by hand and with tests/interpreter.py; names, ports and
+//! help.
 ghost use Rattle.std.specs.Prelude.{◌<◌};
 
 use crate::checks::same;

@@ -140,7 +140,6 @@ fn compare_ports<R: Abort>(rt: &R, sketch: &Sketch) {
     same(rt, "ins", ins, [false, true, false]);
 }
 
-/// A channel leads from `src` and to `snk`, but none from `neg` or to `src`.
 #[test]
 fn finds_unused_ports(rt: HostRuntime) {
     let sketch = sketch_of(&rt, rt.alloc(), TEXT);

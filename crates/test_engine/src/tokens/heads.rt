@@ -90,7 +90,7 @@ fn reads_the_extensible_form_piece_by_piece(rt: HostRuntime) {
     same(&rt, "cut short", fault, Err(WavFault::CutShort));
 }
 
-/// The first 40 bytes of a WAV file of one channel in 8 bits, up to the name of its chunk `junk`.
+/// The first 40 bytes of a WAV file in 8 bits, up to the name of its chunk `junk`.
 const BEFORE_JUNK: &[u8] =
     b"RIFF\x00\x00\x00\x00WAVEfmt \x10\x00\x00\x00\x01\x00\x01\x00@\x1f\x00\x00@\x1f\x00\x00\x01\x00\x08\x00junk";
 

@@ -65,7 +65,7 @@ fn reads_flags_line_by_line(rt: HostRuntime) {
     same(&rt, "text", text.as_slice(), b"true\nfalse\n".as_slice());
 }
 
-/// A line with two digits after the point, and its token or fault.
+/// A line read with two digits after the point, and its token or fault.
 static SAID: [(&[u8], Result<Option<Token>, RecordFault>); 20] = [
     (b"21.3", Ok(Some(Token::Word(2130)))),
     (b"21.", Ok(Some(Token::Word(2100)))),
