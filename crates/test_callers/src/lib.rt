@@ -1,6 +1,5 @@
-//! Callers that wrong bodies turn: what two looks show, calls at one of two boards, what is published one after the other,
-//! the opening of one of two monitors and of a fresh machine, and a look at a monitor. A monitor can be opened only under
-//! the names of its own opening, so no seat of another monitor has the type of its seats.
+//! Callers that wrong bodies edit. A monitor opens only under the names of its own opening, so no seat of
+//! another monitor has the type of its seats.
 #![tactic(auto)]
 
 ghost use Rattle.std.specs.Prelude.{◌≡◌, ◌≢◌, ◌<◌, ◌≤◌, ◌^◌, length, Some, IfOk};
@@ -25,7 +24,7 @@ pub struct TwoLooks {
     pub second: Progress,
 }
 
-/// Looks twice, and returns both. Neither number falls, and an end stays.
+/// Looks twice and returns both. Neither count falls, and an end stays.
 pub fn look_twice(board: &Board, watcher: &mut Watcher) -> TwoLooks
     requires { watcher.old.board ≡ board.now }
     ensures entries { result.first.entries ≤ result.second.entries }
@@ -37,14 +36,14 @@ pub fn look_twice(board: &Board, watcher: &mut Watcher) -> TwoLooks
     TwoLooks { first, second }
 }
 
-/// Looks at the first of two boards, with a watcher of it.
+/// Looks at the first of two boards with a watcher of it.
 pub fn look_at_first(first: &Board, _second: &Board, watcher: &mut Watcher) -> Progress
     requires { watcher.old.board ≡ first.now }
 {
     first.look(watcher)
 }
 
-/// Makes a watcher of the first of two boards, with its publisher.
+/// Makes a watcher of the first of two boards, with its publisher. Fails if the board has made 64 watchers.
 pub fn watch_first(
     first: &Board,
     _second: &Board,
@@ -55,7 +54,7 @@ pub fn watch_first(
     first.split(publisher)
 }
 
-/// Publishes a history that goes on, and then a longer one with its end.
+/// Publishes a history that continues the published one, and then one that continues it, with its end.
 pub fn publish_in_two(
     board: &Board,
     publisher: &mut CountingPublisher,
@@ -80,7 +79,7 @@ pub struct Opened<B: Body, E: EntryLedger, O: Ledger> {
     pub seat: Seat<E, O>,
 }
 
-/// Opens the first of two openings. The types name the network, the board and the ledgers of that one.
+/// Opens the first of two openings: the types name its network, board and ledgers.
 pub fn open_first<B: Body, E: EntryLedger, O: Ledger>(
     first: Opening<B>,
     _second: Opening<B>,
@@ -95,7 +94,7 @@ pub fn open_first<B: Body, E: EntryLedger, O: Ledger>(
     Opened { monitor, seat }
 }
 
-/// Makes an opening of a fresh machine; hands the machine back if memory was refused.
+/// Makes an opening of a fresh machine. Errors: out of memory. Returns the machine.
 pub fn open_fresh<B: Body>(alloc: Global, machine: Machine<B>) -> Result<Opening<B>, Machine<B>>
     requires { IsFresh machine }
     ensures { IfOk result (λ o. o.machine ≡ machine) }
@@ -103,7 +102,7 @@ pub fn open_fresh<B: Body>(alloc: Global, machine: Machine<B>) -> Result<Opening
     Opening::new(alloc, machine)
 }
 
-/// Looks at a monitor, and returns how far the watcher has then seen the history come.
+/// Looks at a monitor, and returns how much of the history the watcher has then seen.
 pub fn look_at<B: Body, E: EntryLedger, O: Ledger, R: Wait>(
     _rt: &R,
     monitor: &Monitor<B, E, O>,

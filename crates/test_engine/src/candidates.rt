@@ -1,5 +1,4 @@
-//! Who waits at the channels: the candidates for a growth and the marks, by hand, and the growths of a network of three
-//! full channels.
+//! Who waits at channels: candidates for a growth and marks, by hand; and the growths of three full channels.
 use crate::checks::same;
 use crate::machines::{finish_alone, machine_of};
 use kpn_net::{End, Entry};
@@ -72,7 +71,7 @@ fn nobody_waits_at_first(rt: HostRuntime) {
     same(&rt, "nobody", marks, [false; 2]);
 }
 
-/// Three counters of four tokens, whose sinks read none, over channels of capacities 3, 1 and 2.
+/// Three counters of four tokens over channels of capacities 3, 1 and 2; their sinks read none.
 const THREE_FULL: &str = "version = 1
 process = [
     { name = \"k0\", kind = \"count\", args = [0, 4] },
@@ -89,7 +88,7 @@ channel = [
 ]
 ";
 
-/// The smallest channel grows first, and of equal ones the one of least number.
+/// The smallest channel grows first, and among equals the one with the lowest number.
 static GROWTHS: [Entry; 6] = [
     Entry::Grew { channel: 1, to: 2 },
     Entry::Grew { channel: 1, to: 3 },

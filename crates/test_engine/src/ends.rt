@@ -11,7 +11,7 @@ use kpn_report::places_of;
 use std::alloc::Global;
 use std::process::Abort;
 
-/// The description of a network, and what holds at the end of its run, whatever the schedule.
+/// A description, and what holds at the end of its run, whatever the schedule.
 #[derive(Clone, Copy)]
 struct EndOfRun {
     name: &'static str,
@@ -24,7 +24,7 @@ struct EndOfRun {
     places: [Place; 2],
 }
 
-/// The sink reads one token, so that the channel grows.
+/// The sink reads one token, so the channel grows.
 static TERMINATED: EndOfRun = EndOfRun {
     name: "terminated",
     text: SINK_OF_ONE,
@@ -36,7 +36,6 @@ static TERMINATED: EndOfRun = EndOfRun {
     places: [Place::Stopped, Place::Stopped],
 };
 
-/// The sink reads all three tokens.
 static ALL_READ: EndOfRun = EndOfRun {
     name: "all read",
     text: SINK_OF_THREE,
@@ -66,27 +65,23 @@ static DEADLOCK: EndOfRun = EndOfRun {
     places: [Place::Stopped, Place::Reads(0)],
 };
 
-/// A machine that ran to its end alone.
 fn finished_machine<R: Abort>(rt: &R, alloc: Global, text: &str) -> CardMachine {
     let mut machine = machine_of(rt, alloc, text);
     finish_alone(rt, &mut machine);
     machine
 }
 
-/// Compares the places of the processes in the report.
 fn assert_places<R: Abort>(rt: &R, alloc: Global, machine: &CardMachine, due: &EndOfRun) {
     let places = places_of(alloc, machine.net(), machine.standings()).expect(rt, "no memory");
     same(rt, due.name, places.as_slice(), due.places.as_slice());
 }
 
-/// Compares a history: its length, its first entry, and how often the channel grew.
 fn assert_history<R: Abort>(rt: &R, history: &[Entry], due: &EndOfRun) {
     let growths = history.iter().filter(|entry| **entry == GREW).count();
     let found = (history.len(), history.first().copied(), growths);
     same(rt, due.name, found, (due.entries, Some(PUT_1), due.growths));
 }
 
-/// Compares a machine whose run has ended.
 fn assert_over<R: Abort>(rt: &R, alloc: Global, machine: &CardMachine, due: &EndOfRun) {
     let name = due.name;
     let found = (machine.end(), machine.commits());
@@ -96,7 +91,6 @@ fn assert_over<R: Abort>(rt: &R, alloc: Global, machine: &CardMachine, due: &End
     assert_places(rt, alloc, machine, due);
 }
 
-/// Compares what a machine left behind.
 fn assert_chronicle<R: Abort>(rt: &R, chronicle: &Chronicle<Standard>, due: &EndOfRun) {
     let name = due.name;
     let found = (chronicle.net().processes(), chronicle.end());

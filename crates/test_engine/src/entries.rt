@@ -1,10 +1,9 @@
-//! The entries that the histories have.
+//! The entries of the histories.
 use kpn_machine::Deed::{Put, Stopped, Took};
 use kpn_machine::Entry;
 use kpn_machine::Entry::{Did, Grew};
 use kpn_net::Token::Word;
 
-/// The counter writes its first token.
 pub(crate) const PUT_1: Entry = Did {
     process: 0,
     deed: Put {
@@ -29,7 +28,6 @@ pub(crate) const PUT_3: Entry = Did {
     },
 };
 
-/// The sink reads the first token.
 pub(crate) const TOOK_1: Entry = Did {
     process: 1,
     deed: Took {

@@ -1,4 +1,4 @@
-//! Tests of kpn_flow.
+//! Tests of kpn_flow and hox_stream.
 mod flows;
 mod networks;
 mod openings;

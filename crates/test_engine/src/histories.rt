@@ -9,7 +9,7 @@ use kpn_net::{End, Entry};
 use std::alloc::Global;
 use std::process::Abort;
 
-/// A description, the processes whose answers are committed, the outcomes, the history, and its end.
+/// The answers of `processes`, committed in this order, give these outcomes, entries and end.
 struct History {
     name: &'static str,
     text: &'static str,
@@ -57,7 +57,6 @@ static HANDED_ON: History = History {
     end: None,
 };
 
-/// Commits the answers of these processes one after the other, and returns the outcomes.
 fn outcomes_of<R: Abort>(
     rt: &R,
     alloc: Global,
@@ -73,7 +72,6 @@ fn outcomes_of<R: Abort>(
     outcomes
 }
 
-/// Commits the answers of the processes, and compares the outcomes and the history.
 fn follow<R: Abort>(rt: &R, alloc: Global, due: &History) {
     let name = due.name;
     let mut machine = machine_of(rt, alloc, due.text);

@@ -1,12 +1,11 @@
-//! Bodies that are asked where they lie.
+//! Bodies asked in place.
 use crate::checks::same;
 use crate::machines::{CardMachine, machine_of, outcome_of, take};
 use crate::networks::SINK_OF_THREE;
 use kpn_net::End;
 use std::process::Abort;
 
-/// Asks in place, and compares how many answers were taken, how many processes are ready and out then, and
-/// how many entries there are.
+/// Asks in place; compares the number of answers taken, of processes then out, and of entries.
 fn asks<R: Abort>(rt: &R, machine: &mut CardMachine, most: u64, due: (u64, usize, usize)) {
     let taken = machine.ask_in_place(most);
     same(
@@ -17,7 +16,7 @@ fn asks<R: Abort>(rt: &R, machine: &mut CardMachine, most: u64, due: (u64, usize
     );
 }
 
-/// The counter of three and its sink do eight deeds, each by one answer, in whatever order they are asked.
+/// The counter and its sink take eight steps, one for each answer, in any order.
 #[test]
 fn to_the_end(rt: HostRuntime) {
     let mut machine = machine_of(&rt, rt.alloc(), SINK_OF_THREE);
@@ -29,7 +28,6 @@ fn to_the_end(rt: HostRuntime) {
     drop(machine);
 }
 
-/// What is found once the other has gone on beside this process.
 fn due_beside(process: usize) -> (u64, usize, usize) {
     match process {
         0 => (1, 1, 0),
@@ -37,8 +35,8 @@ fn due_beside(process: usize) -> (u64, usize, usize) {
     }
 }
 
-/// Beside a process that is out the other goes on until it has to wait for it: a counter writes one token
-/// and waits with the second, a sink waits at once. The first to be taken is the counter or the sink.
+/// The other process continues until it waits for the one that is out: a counter after one write, a sink at
+/// once. Either may be taken first.
 #[test]
 fn beside_one_that_is_out(rt: HostRuntime) {
     let alloc = rt.alloc();

@@ -1,4 +1,4 @@
-//! What keeps entries, by hand, with numbers that no network of today has: each entry is read again as it came.
+//! Keepers of entries, with numbers above those of any network.
 ghost use Rattle.std.specs.Prelude.{◌≡◌, ◌≤◌, []};
 
 use crate::checks::same;
@@ -54,7 +54,6 @@ const GROWS: Entry = Grew {
 
 const TOLD: [Entry; 6] = [GREATEST, LONG, TRUE, FALSE, STOPS, GROWS];
 
-/// Keeps one entry after the other.
 fn keep_all<H: Keeper>(keeper: &mut H)
     requires none { H.entries keeper.old ≡ [] }
     requires room { 6 ≤ H.room keeper.old }

@@ -1,8 +1,5 @@
-//! Tests of all that needs neither threads nor a program: of descriptions, their messages, kinds, pictures and
-//! verdicts, and of texts of tokens (kpn_net, kpn_message, kpn_picture, kpn_verdict and kpn_tokens, and in `kinds`
-//! kpn_standard, kpn_body, kpn_compute and kpn_signals); of machines (kpn_machine, and kpn_state and kpn_commit
-//! below it); in `flow` of kpn_flow and hox_stream; and in `own_kinds` of example_signals. They have a crate of their
-//! own so that these are proved once, and one crate so that what it uses is loaded once.
+//! Tests of what needs neither threads nor a program. They have a crate of their own so that what they test
+//! is proved once, and a single one so that what it uses is loaded once.
 #![tactic(auto)]
 
 #[cfg(test)]

@@ -1,6 +1,6 @@
-//! Calls of a machine, with only such contracts as the tests need. A test that is refused memory ends
-//! at once, so that no function here has to let go of a machine half way; the one test that goes on
-//! makes its parts itself. Who owns a machine calls those that compare what is lent to them.
+//! Calls of a machine, with only the contracts that tests need. Out of memory, a test ends at once, so
+//! nothing here drops a machine halfway; only `refusals` continues, and makes its parts itself. Functions
+//! that own a machine compare through functions that borrow it.
 ghost use Rattle.kpn_machine.specs.MachineView.{IsFresh};
 
 use crate::checks::same;
@@ -17,17 +17,15 @@ pub(crate) type CardTask = Task<CardBody<Standard>>;
 
 pub(crate) type CardFinished = Finished<CardBody<Standard>>;
 
-/// Opens a machine of the network of a description.
 pub(crate) fn machine_of<R: Abort>(rt: &R, alloc: Global, text: &str) -> CardMachine {
     opened(rt, alloc, fresh_parts(rt, alloc, text))
 }
 
-/// The network of a description, with its bodies.
 pub(crate) fn fresh_parts<R: Abort>(rt: &R, alloc: Global, text: &str) -> Parts {
     parts_of(rt, alloc, text).expect(rt, "no memory for the parts")
 }
 
-/// Opens a machine; only memory may be refused.
+/// Opens a machine; this may fail only for lack of memory.
 pub(crate) fn opened<R: Abort>(rt: &R, alloc: Global, parts: Parts) -> CardMachine {
     match Machine::open(alloc, parts.net, parts.bodies) {
         Ok(machine) => machine,
@@ -38,48 +36,41 @@ pub(crate) fn opened<R: Abort>(rt: &R, alloc: Global, parts: Parts) -> CardMachi
     }
 }
 
-/// A fresh machine.
 pub(crate) fn assert_fresh<R: Abort>(rt: &R, machine: &CardMachine)
     ensures { IsFresh machine.now }
 {
     assert!(rt; machine.is_fresh());
 }
 
-/// Goes on to the end, while no process is out.
 pub(crate) fn finish_alone<R: Abort>(rt: &R, machine: &mut CardMachine) {
     assert!(rt; machine.out() == 0);
     machine.finish_alone();
 }
 
-/// Takes the next task of a machine in which a process is ready.
 pub(crate) fn take<R: Abort>(rt: &R, machine: &mut CardMachine) -> CardTask {
     machine.take().expect(rt, "no process is ready")
 }
 
-/// Takes no task, as no process is ready, or the run has ended.
 pub(crate) fn take_none<R: Abort>(rt: &R, machine: &mut CardMachine) {
     same(rt, "none is taken", machine.take().is_none(), true);
 }
 
-/// Lays a task to those that are out.
 pub(crate) fn lay<R: Abort>(rt: &R, tasks: &mut Vec<CardTask>, task: CardTask) {
     tasks.push(task).expect(rt, "no memory for a task");
 }
 
-/// Takes the next task, if a process is ready.
 fn take_next<R: Abort>(rt: &R, machine: &mut CardMachine, tasks: &mut Vec<CardTask>) {
     if let Some(task) = machine.take() {
         lay(rt, tasks, task);
     }
 }
 
-/// Takes all ready processes.
+/// Takes both processes, as far as they are ready.
 pub(crate) fn take_all<R: Abort>(rt: &R, machine: &mut CardMachine, tasks: &mut Vec<CardTask>) {
     take_next(rt, machine, tasks);
     take_next(rt, machine, tasks);
 }
 
-/// Calls the body of a process that is out, and returns its answer.
 pub(crate) fn answer_of<R: Abort>(
     rt: &R,
     tasks: &mut Vec<CardTask>,
@@ -92,7 +83,6 @@ pub(crate) fn answer_of<R: Abort>(
     tasks.swap_remove(index).call()
 }
 
-/// Commits an answer that was asked for.
 pub(crate) fn outcome_of<R: Abort>(
     rt: &R,
     machine: &mut CardMachine,
@@ -104,7 +94,6 @@ pub(crate) fn outcome_of<R: Abort>(
         .expect(rt, "the answer of a stranger")
 }
 
-/// Commits an answer that was not asked for, which comes back.
 pub(crate) fn handed_back<R: Abort>(
     rt: &R,
     machine: &mut CardMachine,
@@ -114,7 +103,7 @@ pub(crate) fn handed_back<R: Abort>(
     stranger.finished
 }
 
-/// Takes all ready processes, and commits the answer of this one.
+/// Takes the ready processes, and commits the answer of this one.
 pub(crate) fn commit_of<R: Abort>(
     rt: &R,
     machine: &mut CardMachine,

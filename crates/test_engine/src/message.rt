@@ -1,4 +1,4 @@
-//! Edits of a description, each with the number of its fault and its message.
+//! Edits of a description, each with its fault's number and its message.
 use crate::checks::same;
 use kpn_message::{
     Location, Messages, line_of_table, locate, message_of, message_of_sketch, messages_of_sketch,
@@ -11,7 +11,7 @@ use std::process::Abort;
 
 const KINDS: &str = "count and sink";
 
-/// A counter, a copier and two sinks.
+/// A counter, a copy and two sinks.
 const TEXT: &str = "version = 2
 budget = 100
 
@@ -53,8 +53,7 @@ to = \"s1\"
 tokens = []
 ";
 
-/// Edits that make no TOML, or other keys: what stands in the text, what stands there in its place, the
-/// number of the fault and the message.
+/// Faults of the TOML or its keys.
 static KEYS: [(&str, &str, u8, &str); 15] = [
     (
         "version = 2",
@@ -143,7 +142,7 @@ static KEYS: [(&str, &str, u8, &str); 15] = [
     ),
 ];
 
-/// Texts with a fault of names, kinds, arguments or unused ports, and their messages.
+/// Faults of names, kinds, arguments or unused ports.
 static PROCESSES: [(&str, &str, u8, &str); 13] = [
     (
         "name = \"src\"",
@@ -225,7 +224,7 @@ static PROCESSES: [(&str, &str, u8, &str); 13] = [
     ),
 ];
 
-/// Texts with a fault of channels, of the budget or of the step, and their messages.
+/// Faults of channels, of the budget or of the step.
 static CHANNELS: [(&str, &str, u8, &str); 14] = [
     (
         "from = \"src\"",
@@ -313,7 +312,6 @@ static CHANNELS: [(&str, &str, u8, &str); 14] = [
     ),
 ];
 
-/// Whole texts of version 1, and of no network.
 static TEXTS: [(&str, u8, &str); 14] = [
     (
         "version = 1\n[[process]\n",
@@ -379,13 +377,12 @@ static TEXTS: [(&str, u8, &str); 14] = [
     ),
 ];
 
-/// The network of a text.
 fn net_of(alloc: Global, text: &[u8]) -> Result<Net<Standard>, NetFault> {
     let sketch = read_sketch(alloc, text)?;
     Net::check(alloc, &sketch)
 }
 
-/// A text is refused by this number, and with this message.
+/// Compares a fault's number and its message, of the text and of the sketch if there is one.
 fn tells<R: Abort>(rt: &R, alloc: Global, text: &[u8], number: u8, message: &str) {
     let fault = net_of(alloc, text).err().expect(rt, message);
     let told = message_of::<Standard>(alloc, text, fault, KINDS).expect(rt, message);
@@ -401,10 +398,9 @@ fn tells<R: Abort>(rt: &R, alloc: Global, text: &[u8], number: u8, message: &str
     }
 }
 
-/// An edit of the text, with the number of its fault and its message.
+/// The old text, the new one, the fault's number, the message.
 type Edit = (&'static str, &'static str, u8, &'static str);
 
-/// The edited text is refused by this number, and with this message.
 fn tells_of_edit<R: Abort>(rt: &R, alloc: Global, edit: &Edit) {
     let (old, new, number, message) = *edit;
     let text = TEXT.replace(alloc, old, new).expect(rt, "no memory");
@@ -441,7 +437,7 @@ fn each_text_has_its_message(rt: HostRuntime) {
     tells(&rt, rt.alloc(), &[0xff], 1, message);
 }
 
-/// The line of table `k` of the text above, if it has so many processes.
+/// Returns the line of process `k` of `TEXT`, if `TEXT` has `tables` processes.
 fn line_of(tables: usize, k: usize) -> Option<usize> {
     line_of_table(TEXT.as_bytes(), b"[[process]]", tables, k)
 }
@@ -454,7 +450,7 @@ fn the_line_of_a_table_is_that_of_its_header(rt: HostRuntime) {
     same(&rt, "one without a header", line_of(5, 0), None);
 }
 
-/// The faults that have no message, with the numbers and the lines of these.
+/// The faults without a message.
 static PLAIN: [(NetFault, u8, &str); 2] = [
     (NetFault::Memory, 14, "out of memory"),
     (
@@ -464,7 +460,6 @@ static PLAIN: [(NetFault, u8, &str); 2] = [
     ),
 ];
 
-/// Compares the line of a fault that has no message.
 fn compare_plain<R: Abort>(rt: &R, alloc: Global, fault: NetFault, number: u8, line: &str) {
     let message = message_of::<Standard>(alloc, TEXT.as_bytes(), fault, KINDS);
     same(
@@ -484,7 +479,7 @@ fn two_faults_have_a_plain_line(rt: HostRuntime) {
     }
 }
 
-/// The second process is of an unknown kind, and the second channel holds nothing.
+/// The second process has an unknown kind, and the second channel capacity 0.
 const PLACES: &str = "version = 1
 process = [
   { name = \"src\", kind = \"count\", args = [1, 3] },
@@ -513,8 +508,7 @@ fn locates_a_process_a_channel_and_neither(rt: HostRuntime) {
     drop(sketch);
 }
 
-/// A description with five faults that stand by themselves: of what follows from the unknown kind, as that
-/// c0 begins at no output, nothing is told.
+/// Five independent faults. What follows from the unknown kind (c0 begins at no output) is not reported.
 const FAULTY: &str = "version = 2
 budget = 0
 step = 0
@@ -522,7 +516,7 @@ process = [{ name = \"src\", kind = \"cuont\", args = [1, 3] }, { name = \"snk\"
 channel = [{ name = \"c0\", from = \"src\", to = \"snk\", capacity = 0 }]
 ";
 
-/// What is told of it, first the fault that it is refused for.
+/// The first belongs to the fault that a check returns.
 static MESSAGES: [&str; 5] = [
     "process \"src\": unknown kind \"cuont\"; the kinds are count and sink",
     "process \"snk\": args has length 0, but kind \"sink\" takes 1",
@@ -531,7 +525,6 @@ static MESSAGES: [&str; 5] = [
     "step 0; it must be 1 to 1024",
 ];
 
-/// Compares what is told of the description with five faults.
 fn compare_messages<R: Abort>(rt: &R, messages: &Messages) {
     same(rt, "all", messages.are_all, true);
     same(rt, "how many", messages.told.len(), MESSAGES.len());

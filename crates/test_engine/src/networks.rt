@@ -1,5 +1,4 @@
-//! The networks of the tests: a counter from 1 of three tokens, process 0, writes into a sink, process
-//! 1, over channel 0 of capacity one.
+//! The tests' networks: process 0 counts from 1 to 3 into channel 0 of capacity 1, and process 1 is a sink.
 use crate::checks::same;
 use kpn_body::Standard;
 use kpn_compute::{CardBody, bodies_of};
@@ -7,19 +6,17 @@ use kpn_net::{Card, Check, Net, NetFault, read_sketch};
 use std::alloc::{AllocError, Global};
 use std::process::Abort;
 
-/// The counter.
 pub(crate) const COUNTER: Card = Card {
     kind: 0,
     args: [1, 3, 0],
 };
 
-/// The sink of three.
 pub(crate) const SINK: Card = Card {
     kind: 1,
     args: [3, 0, 0],
 };
 
-/// The description of a network: how many tokens the sink reads, and the budget.
+/// A description: how many tokens the sink reads, and the budget.
 macro_rules! description {
     (reads $reads:literal, budget $budget:literal) => {
         concat!(
@@ -55,24 +52,21 @@ pub(crate) const SINK_OF_THREE: &str = description!(reads 3, budget 10000);
 
 pub(crate) const SINK_OF_FOUR: &str = description!(reads 4, budget 10000);
 
-/// A sink of three, and a budget of one entry.
 pub(crate) const BUDGET_OF_ONE: &str = description!(reads 3, budget 1);
 
-/// A network, and a body for each of its processes in order.
 #[derive(Drop)]
 pub(crate) struct Parts {
     pub(crate) net: Net<Standard>,
     pub(crate) bodies: Vec<CardBody<Standard>>,
 }
 
-/// The network of a description, with its bodies. Fails if memory was refused.
+/// Returns the network of a description, with its bodies. Errors: out of memory.
 pub(crate) fn parts_of<R: Abort>(rt: &R, alloc: Global, text: &str) -> Result<Parts, AllocError> {
     let net = net_of(rt, alloc, text)?;
     let bodies = bodies_of(alloc, &net)?;
     Ok(Parts { net, bodies })
 }
 
-/// The network of a description that is refused only if memory is.
 fn net_of<R: Abort>(rt: &R, alloc: Global, text: &str) -> Result<Net<Standard>, AllocError> {
     match check_text(alloc, text) {
         Ok(net) => Ok(net),

@@ -1,4 +1,4 @@
-//! What a machine is opened with, and what it hands back.
+//! What a machine is opened with, and what it returns.
 use crate::checks::same;
 use crate::machines::{CardMachine, assert_fresh, fresh_parts, machine_of, opened};
 use crate::networks::{COUNTER, Parts, SINK, SINK_OF_THREE};
@@ -9,7 +9,6 @@ use kpn_net::Card;
 use std::alloc::Global;
 use std::process::Abort;
 
-/// Compares the cards of bodies, in order.
 fn assert_cards<R: Abort>(rt: &R, bodies: &[CardBody<Standard>], cards: &[Card], name: &str) {
     same(rt, name, bodies.len(), cards.len());
     for (body, card) in bodies.iter().zip(cards.iter()) {
@@ -17,14 +16,12 @@ fn assert_cards<R: Abort>(rt: &R, bodies: &[CardBody<Standard>], cards: &[Card],
     }
 }
 
-/// Takes apart a fresh machine.
 fn taken_apart<R: Abort>(rt: &R, machine: CardMachine) -> Parts {
     assert_fresh(rt, &machine);
     let (net, bodies) = machine.into_parts();
     Parts { net, bodies }
 }
 
-/// Compares the parts of a machine of a counter and a sink of three.
 fn assert_parts<R: Abort>(rt: &R, alloc: Global, parts: &Parts) {
     let cards = cards_of(alloc, &parts.net).expect(rt, "no memory");
     same(rt, "cards", cards.as_slice(), [COUNTER, SINK].as_slice());
@@ -40,8 +37,6 @@ fn the_parts_of_a_fresh_machine_open_again(rt: HostRuntime) {
     drop(machine);
 }
 
-/// What a refused machine was to be opened with: the fault with its number, and the cards of the
-/// bodies.
 #[derive(Clone, Copy)]
 pub(crate) struct Misfit {
     pub(crate) name: &'static str,
@@ -64,7 +59,6 @@ static TURNED: Misfit = Misfit {
     cards: &[SINK, COUNTER],
 };
 
-/// Compares what was handed back with what was to be opened.
 pub(crate) fn assert_handed_back<R: Abort>(
     rt: &R,
     refused: &OpenRefused<CardBody<Standard>>,
@@ -77,7 +71,6 @@ pub(crate) fn assert_handed_back<R: Abort>(
     assert_cards(rt, refused.bodies.as_slice(), due.cards, name);
 }
 
-/// Tries to open a machine that is refused, and compares what is handed back.
 fn open_misfit<R: Abort>(rt: &R, alloc: Global, parts: Parts, due: &Misfit) {
     let name = due.name;
     match Machine::open(alloc, parts.net, parts.bodies) {

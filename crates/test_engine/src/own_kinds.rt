@@ -1,4 +1,4 @@
-//! The kinds of example_signals: the lines of gain; the first sums; and the names of both families.
+//! The kinds of example_signals, alone and in both families joined.
 use crate::checks::same;
 use example_signals::{Gains, MovingSums};
 use kpn_compute::{Both, Computes, Filtered, Filters};
@@ -48,7 +48,6 @@ fn moving_sum_adds_four_words(rt: HostRuntime) {
     same(&rt, "writes", answer, writes);
 }
 
-/// The number of the kind with this name, and how many arguments it takes.
 fn named(name: &str) -> Option<(u16, usize)> {
     OwnKinds::named(name)
 }
@@ -87,13 +86,12 @@ fn both_answer_as_each(rt: HostRuntime) {
     );
 }
 
-/// Three times the sum of the words, for ever.
+/// A gain and a moving sum in a loop without start tokens, which is only drawn.
 const LOOP: &str = r#"version = 1
 process = [{ name = "g", kind = "gain", args = [3] }, { name = "m", kind = "moving_sum" }]
 channel = [{ name = "c0", from = "g", to = "m" }, { name = "c1", from = "m", to = "g" }]
 "#;
 
-/// The network of the loop.
 fn loop_of<R: Abort>(rt: &R, alloc: Global) -> Net<OwnKinds> {
     let sketch = read_sketch(alloc, LOOP.as_bytes()).expect(rt, "no sketch");
     let net = Net::check(alloc, &sketch).expect(rt, "no network");

@@ -1,4 +1,4 @@
-//! Worked pictures: of a counter, of a network with flags and start tokens, and of the ends of runs.
+//! Pictures worked out by hand: of networks at their start, and of how runs ended.
 use crate::checks::same;
 use kpn_compute::Both;
 use kpn_compute::both::{is_first, own_card};
@@ -9,14 +9,14 @@ use kpn_standard::Standard;
 use std::alloc::Global;
 use std::process::Abort;
 
-/// The lines above all processes, in each picture.
+/// The first lines of each picture.
 const HEAD: &str = r##"digraph kpn {
   graph [rankdir=LR, nodesep=0.4, ranksep=0.6, labelloc=t, fontname="Helvetica", fontsize=16];
   node [shape=box, style="rounded,filled", fillcolor="#eef3fa", color="#44546a", fontname="Helvetica"];
   edge [color="#44546a", fontcolor="#44546a", fontname="Helvetica", fontsize=11, labelfontsize=9, labeldistance=1.5, labelangle=25];
 "##;
 
-/// Draws a network of which nothing is known but how a run ended, if it did.
+/// Draws a network; of a run only its end is known.
 fn picture_of_start<R: Abort>(
     rt: &R,
     alloc: Global,
@@ -31,13 +31,11 @@ fn picture_of_start<R: Abort>(
     picture_of(alloc, net, Direction::Right, end, &start).expect(rt, "no memory")
 }
 
-/// Compares the picture of a network at its start with the lines below the first ones.
 fn compare_start<R: Abort>(rt: &R, alloc: Global, net: &Net<Standard>, due: &str) {
     let drawn = picture_of_start(rt, alloc, net, None);
     same(rt, "picture", drawn.strip_prefix(HEAD), Some(due));
 }
 
-/// The network of a description.
 pub(crate) fn net_of<R: Abort>(rt: &R, alloc: Global, text: &str) -> Net<Standard> {
     let sketch = read_sketch(alloc, text.as_bytes()).expect(rt, "no sketch");
     let net = Net::check(alloc, &sketch).expect(rt, "no network");
@@ -62,7 +60,7 @@ fn draws_a_description(rt: HostRuntime) {
     drop(net);
 }
 
-/// A switch that passes words on by flags; its channel of flags begins with some.
+/// A switch; its channel of flags has start tokens.
 const SWITCH: &str = r#"version = 2
 process = [
     { name = "a", kind = "count", args = [7, 3] },
@@ -117,7 +115,6 @@ channel = [
 ]
 "#;
 
-/// The places in which the run of the loop leaves its processes.
 pub(crate) static LOOP_PLACES: [Place; 4] = [
     Place::Stopped,
     Place::Reads(1),
@@ -125,12 +122,11 @@ pub(crate) static LOOP_PLACES: [Place; 4] = [
     Place::Reads(3),
 ];
 
-/// A list of `count` words.
 fn words<R: Abort>(rt: &R, alloc: Global, count: usize) -> Listed<Token> {
     Listed::new(vec![in alloc; Token::Word(2); count].expect(rt, "no memory"))
 }
 
-/// What is left on the channels of the loop.
+/// Four tokens are left on c0, none on the others.
 fn rests_of_loop<R: Abort>(rt: &R, alloc: Global) -> Vec<Listed<Token>> {
     let mut rests = Vec::new(alloc);
     for count in [4, 0, 0, 0] {
@@ -140,7 +136,6 @@ fn rests_of_loop<R: Abort>(rt: &R, alloc: Global) -> Vec<Listed<Token>> {
     rests
 }
 
-/// Compares the picture of the loop after its run with the lines below the first ones.
 fn compare_deadlock<R: Abort>(rt: &R, alloc: Global, net: &Net<Standard>, due: &str) {
     let rests = rests_of_loop(rt, alloc);
     let left = Left {
@@ -171,7 +166,7 @@ fn draws_a_deadlock_with_its_cycle(rt: HostRuntime) {
     drop(net);
 }
 
-/// A copy whose two outputs are woven again (Parks 1995).
+/// A copy with two outputs that are woven again (Parks 1995).
 const WOVEN: &str = r#"version = 1
 process = [
     { name = "src", kind = "count", args = [1, 9] },
@@ -187,7 +182,6 @@ channel = [
 ]
 "#;
 
-/// Compares which channels of a network are on a cycle of waits.
 fn compare_jams<R: Abort>(rt: &R, net: &Net<Standard>, places: &[Place], due: &[bool]) {
     same(rt, "channels", net.channels(), due.len());
     for c in 0..net.channels() {
@@ -196,8 +190,8 @@ fn compare_jams<R: Abort>(rt: &R, net: &Net<Standard>, places: &[Place], due: &[
     }
 }
 
-/// The copy waits for room in c2, and its reader for a token of c1, which the copy is to write. The
-/// counter and the sink wait for these two, and not for themselves.
+/// The copy waits for room in c2, and the reader of c2 for a token that the copy writes to c1. The counter
+/// and the sink wait for these two, but are not on the cycle.
 #[test]
 fn marks_the_cycles_of_waits(rt: HostRuntime) {
     let stuck = [
@@ -211,7 +205,7 @@ fn marks_the_cycles_of_waits(rt: HostRuntime) {
     drop(net);
 }
 
-/// The counter has ended, and the others wait for it: that is no cycle.
+/// The counter has ended and the others wait for it, which is no cycle.
 #[test]
 fn marks_no_channel_without_a_cycle(rt: HostRuntime) {
     let served = [
@@ -226,7 +220,6 @@ fn marks_no_channel_without_a_cycle(rt: HostRuntime) {
     drop(net);
 }
 
-/// The title of a picture for each end.
 static ENDS: [(End, &str); 5] = [
     (End::Terminated, "finished (terminated)"),
     (End::Deadlock, "ran dry (deadlock)"),
@@ -238,7 +231,6 @@ static ENDS: [(End, &str); 5] = [
     (End::Memory, "memory (memory refused)"),
 ];
 
-/// Compares the title of the picture of a network for an end.
 fn compare_end<R: Abort>(rt: &R, alloc: Global, net: &Net<Standard>, end: End, due: &str) {
     let drawn = picture_of_start(rt, alloc, net, Some(end));
     let line = format!(in alloc; "\n  label=\"{due}\";\n").expect(rt, "no memory");
@@ -254,14 +246,13 @@ fn draws_each_end(rt: HostRuntime) {
     drop(net);
 }
 
-/// The title of the kind of a card, if it has a signature.
 fn title_of<K: Titled>(card: Card) -> Option<(&'static str, usize)> {
     K::signature(&card)?;
     Some(K::title(&card))
 }
 
-/// A kind in its own family, the same in the family of standard kinds and those for signals, in which kind k of
-/// the first is 2k and of the second 2k + 1, arguments, and the title of cards with these.
+/// A kind's number in its own family and in `Both<Standard, Signals>` (2k for kind k of the first, 2k + 1 of
+/// the second), arguments, and the title of such cards.
 type TitleRow = (u16, u16, [u64; 3], (&'static str, usize));
 
 static STANDARD_TITLES: [TitleRow; 4] = [
@@ -276,7 +267,6 @@ static SIGNALS_TITLES: [TitleRow; 2] = [
     (20, 41, [1, 9, 0], ("clip", 2)),
 ];
 
-/// Compares the titles of the cards of a row, and what the family of both says of its card.
 fn compare_titles<K: Titled, R: Abort>(rt: &R, row: &TitleRow, is_standard: bool) {
     let (kind, of_both, args, due) = *row;
     let card = Card { kind, args };

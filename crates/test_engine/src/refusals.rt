@@ -1,4 +1,4 @@
-//! One request for memory is refused, whichever it is.
+//! Tests that pass whichever request for memory fails.
 use crate::checks::same;
 use crate::entries::{PUT_1, PUT_2, SINK_STOPPED, TOOK_1};
 use crate::machines::{CardMachine, CardTask, commit_of, opened, take_none};
@@ -11,7 +11,7 @@ use std::alloc::{AllocError, Global};
 use std::process::Abort;
 use std::test::Fail;
 
-/// Which request for memory was refused, of those after which a run can go on.
+/// The failed request, among those after which a run can continue.
 #[derive(Clone, Copy)]
 enum Refused {
     Nothing,
@@ -19,7 +19,6 @@ enum Refused {
     Growth,
 }
 
-/// What is handed back if memory is refused.
 static NO_MEMORY: Misfit = Misfit {
     name: "no memory",
     fault: OpenFault::Memory,
@@ -33,7 +32,7 @@ static NO_MEMORY: Misfit = Misfit {
     ],
 };
 
-/// Opens a machine, and tries again with what was handed back if memory was refused.
+/// Opens a machine; if out of memory, opens it again with the parts returned.
 fn open_again<R: Abort>(rt: &R, alloc: Global, parts: Parts) -> (CardMachine, Refused) {
     match Machine::open(alloc, parts.net, parts.bodies) {
         Ok(machine) => (machine, Refused::Nothing),
@@ -48,7 +47,7 @@ fn open_again<R: Abort>(rt: &R, alloc: Global, parts: Parts) -> (CardMachine, Re
     }
 }
 
-/// Commits the answers up to the one that needs a growth, and returns whether the growth was refused.
+/// Commits the answers up to the one that needs a growth, and returns whether that failed.
 fn grow<R: Abort>(rt: &R, machine: &mut CardMachine, tasks: &mut Vec<CardTask>) -> bool {
     for process in [0, 1, 0, 1] {
         let outcome = commit_of(rt, machine, tasks, process);
@@ -61,22 +60,19 @@ fn grow<R: Abort>(rt: &R, machine: &mut CardMachine, tasks: &mut Vec<CardTask>) 
     is_refused
 }
 
-/// Compares a machine that ended because its growth was refused.
 fn assert_ended<R: Abort>(rt: &R, machine: &mut CardMachine) {
     let entries = [PUT_1, TOOK_1, PUT_2, SINK_STOPPED];
     same(rt, "history", machine.history(), entries.as_slice());
     take_none(rt, machine);
 }
 
-/// Commits the last answer of a machine whose channel grew.
 fn end_after_growth<R: Abort>(rt: &R, machine: &mut CardMachine, tasks: &mut Vec<CardTask>) {
     let outcome = commit_of(rt, machine, tasks, 0);
     let found = (outcome, machine.end());
     same(rt, "end", found, (Done(1), Some(End::Terminated)));
 }
 
-/// Commits all answers, and returns which request was refused: that of the growth, or what was refused at the
-/// opening.
+/// Commits all answers, and returns which request failed: the growth's, or `opening`.
 fn grow_to_the_end<R: Abort>(
     rt: &R,
     machine: &mut CardMachine,
@@ -92,7 +88,6 @@ fn grow_to_the_end<R: Abort>(
     }
 }
 
-/// Makes a run that needs a growth, and returns which request was refused.
 fn growing_run<R: Abort>(
     rt: &R,
     alloc: Global,
@@ -105,14 +100,13 @@ fn growing_run<R: Abort>(
     refused
 }
 
-/// Makes a run that needs a growth, with room for its tasks, and returns which request was refused.
 fn run_with_room<R: Abort>(rt: &R, alloc: Global) -> Result<Refused, AllocError> {
     let mut tasks = Vec::with_capacity(alloc, 2)?;
     let parts = parts_of(rt, alloc, SINK_OF_ONE)?;
     Ok(growing_run(rt, alloc, parts, &mut tasks))
 }
 
-/// Passes whichever request for memory is refused, and prints which one was.
+/// Prints which request failed; tests/refuse_each_allocation_of_the_library makes each fail in turn.
 #[test]
 fn a_refused_request_is_told(rt: HostRuntime) -> Result<(), Fail> {
     let word = match run_with_room(&rt, rt.alloc()) {

@@ -1,5 +1,4 @@
-//! The queue of the ready processes, by hand: first in, first out, and one that is given goes first; and
-//! how many processes stand where.
+//! The queue of ready processes (first in, first out, but a given one first) and the counts, by hand.
 use crate::checks::same;
 use kpn_net::{Act, Answer};
 use kpn_state::standing::is_parked;
@@ -7,7 +6,6 @@ use kpn_state::{Roster, Standing};
 use std::process::Abort;
 use std::rt::HostRuntime;
 
-/// The answer of a process that waits to read.
 const READS: Standing = Standing::Parked(Answer {
     next: [0; 4],
     act: Act::Read(0),
@@ -39,12 +37,10 @@ fn ready_processes_take_turns(rt: HostRuntime) {
     same(&rt, "ready ones", roster.ready(), 2);
 }
 
-/// How many processes are ready, out, parked and live.
 fn counts(roster: &Roster) -> (usize, usize, usize, usize) {
     (roster.ready(), roster.out(), roster.parked(), roster.live())
 }
 
-/// The second parks, and the first stops, and then all.
 fn move_on<R: Abort>(rt: &R, roster: &mut Roster) {
     if roster.as_slice().len() != 3 {
         return;

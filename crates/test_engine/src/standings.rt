@@ -13,8 +13,6 @@ use kpn_net::{Answer, End};
 use std::alloc::Global;
 use std::process::Abort;
 
-/// How many processes are ready and how many out, how many answers were taken, and whether the
-/// machine is fresh.
 #[derive(Clone, Copy, Debug, PartialEq, Eq)]
 struct Counts {
     ready: usize,
@@ -23,7 +21,6 @@ struct Counts {
     fresh: bool,
 }
 
-/// The standings of the two processes, with the counts.
 #[derive(Clone, Copy)]
 struct Stand {
     standings: [Standing; 2],
@@ -70,7 +67,7 @@ const BOTH_OUT: Stand = Stand {
     },
 };
 
-/// The sink of three that waits for its first token.
+/// The sink waits for its first token.
 const SINK_WAITS: Stand = Stand {
     standings: [
         Out,
@@ -121,7 +118,6 @@ fn assert_stand<R: Abort>(rt: &R, machine: &CardMachine, due: &Stand, moment: &s
     same(rt, moment, counts_of(machine), due.counts);
 }
 
-/// Where the processes stand while this one is out.
 fn one_out(process: usize) -> Stand {
     match process {
         0 => COUNTER_OUT,
@@ -129,7 +125,6 @@ fn one_out(process: usize) -> Stand {
     }
 }
 
-/// Takes both processes, one after the other.
 fn go_out<R: Abort>(rt: &R, machine: &mut CardMachine, tasks: &mut Vec<CardTask>) {
     assert_stand(rt, machine, &FRESH, "opened");
     let first = take(rt, machine);
@@ -140,7 +135,6 @@ fn go_out<R: Abort>(rt: &R, machine: &mut CardMachine, tasks: &mut Vec<CardTask>
     take_none(rt, machine);
 }
 
-/// Commits the answers of both processes, which are out, and then the others to the end.
 fn come_back<R: Abort>(rt: &R, machine: &mut CardMachine, tasks: &mut Vec<CardTask>) {
     commit_of(rt, machine, tasks, 1);
     assert_stand(rt, machine, &SINK_WAITS, "the sink waits");
@@ -152,7 +146,6 @@ fn come_back<R: Abort>(rt: &R, machine: &mut CardMachine, tasks: &mut Vec<CardTa
     assert_stand(rt, machine, &OVER, "over");
 }
 
-/// Looks at the standings from the opening to the end.
 fn follow_standings<R: Abort>(rt: &R, alloc: Global, machine: &mut CardMachine) {
     let mut tasks = Vec::new(alloc);
     same(rt, "channels", machine.net().channels(), 1);
@@ -189,7 +182,6 @@ const LAID_BACK: Stand = Stand {
     },
 };
 
-/// Commits the answer of the sink after the end.
 fn answer_late<R: Abort>(rt: &R, alloc: Global, machine: &mut CardMachine) {
     let mut tasks = Vec::new(alloc);
     let outcome = commit_of(rt, machine, &mut tasks, 0);
@@ -201,7 +193,6 @@ fn answer_late<R: Abort>(rt: &R, alloc: Global, machine: &mut CardMachine) {
     assert_stand(rt, machine, &LAID_BACK, "laid back");
 }
 
-/// Compares a machine whose budget of one entry is spent.
 fn assert_spent<R: Abort>(rt: &R, machine: &mut CardMachine) {
     same(rt, "end", machine.end(), Some(End::Budget));
     same(rt, "history", machine.history(), [PUT_1].as_slice());

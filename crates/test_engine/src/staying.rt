@@ -1,4 +1,4 @@
-//! A task whose process goes out again where it lies, and one that comes back without an answer.
+//! A task whose process goes out again with the same body, and one taken back without an answer.
 ghost use Rattle.kpn_machine.specs.MachineView.{IsOut};
 
 use crate::checks::same;
@@ -9,21 +9,19 @@ use kpn_machine::Outcome;
 use kpn_net::End;
 use std::process::Abort;
 
-/// A task that the machine sent out.
 fn assert_sent<R: Abort>(rt: &R, machine: &CardMachine, task: &CardTask)
     ensures { IsOut machine.now task.now }
 {
     assert!(rt; machine.has_sent(task));
 }
 
-/// Asks a task that is out, and commits its answer where it lies.
 fn go_on<R: Abort>(rt: &R, machine: &mut CardMachine, task: &mut CardTask, due: Option<Outcome>) {
     assert_sent(rt, machine, task);
     let answer = task.ask();
     same(rt, "outcome", machine.commit_on(task, answer), due);
 }
 
-/// Compares a machine whose counter is out with its second task, after its first answer.
+/// The counter is out with its second task.
 fn assert_second<R: Abort>(rt: &R, machine: &CardMachine, task: &CardTask) {
     let held = (task.process(), task.local(), task.last());
     same(rt, "held", held, (0, [1, 0, 0, 0], None));
@@ -33,7 +31,6 @@ fn assert_second<R: Abort>(rt: &R, machine: &CardMachine, task: &CardTask) {
     same(rt, "counts", counts, (1, 1, 1));
 }
 
-/// The task comes back without an answer, and the run goes to its end.
 fn come_back<R: Abort>(rt: &R, machine: &mut CardMachine, task: CardTask) {
     assert_sent(rt, machine, &task);
     machine.take_back(task);
@@ -45,8 +42,7 @@ fn come_back<R: Abort>(rt: &R, machine: &mut CardMachine, task: CardTask) {
     same(rt, "entries", machine.history().len(), 8);
 }
 
-/// A counter puts its first word and goes out again at once. Its channel has room for one, so its second answer
-/// can't be done, and nothing changes.
+/// The channel has room for one word, so the counter's second answer can't be done, and nothing changes.
 #[test]
 fn a_counter_goes_on_until_its_channel_is_full(rt: HostRuntime) {
     let mut machine = machine_of(&rt, rt.alloc(), SINK_OF_THREE);
@@ -59,8 +55,8 @@ fn a_counter_goes_on_until_its_channel_is_full(rt: HostRuntime) {
     drop(machine);
 }
 
-/// A sink of one leaves two of three words to a channel of one place, which grows once: three puts, one read, two
-/// stops and the growth.
+/// A sink reads one of three words, so the channel of capacity 1 grows once: three puts, one read, two stops
+/// and the growth.
 #[test]
 fn growths_are_counted(rt: HostRuntime) {
     let mut machine = machine_of(&rt, rt.alloc(), SINK_OF_ONE);

@@ -16,7 +16,6 @@ use kpn_net::{Card, Kinds, Local};
 use std::alloc::Global;
 use std::process::Abort;
 
-/// The local state of a card at its start, in which it may be asked.
 fn start_of<K: Kinds>(card: Card) -> Local
     requires { IsSome (K.signature card) }
     ensures { K.admits card result None }
@@ -26,13 +25,12 @@ fn start_of<K: Kinds>(card: Card) -> Local
     start
 }
 
-/// A task of process 0 at its start, which no machine sent out.
 fn unsent<K: Computes>(body: CardBody<K>) -> Task<CardBody<K>> {
     let start = start_of::<K>(body.card());
     Task::new(0, body, start, None)
 }
 
-/// The counter's first task, with a body that belongs to no machine.
+/// The counter's first task, with a body of no machine.
 fn task_of_another_body<R: Abort>(rt: &R, alloc: Global) -> CardTask {
     let mut parts = fresh_parts(rt, alloc, SINK_OF_THREE);
     parts.bodies.pop();
@@ -41,12 +39,10 @@ fn task_of_another_body<R: Abort>(rt: &R, alloc: Global) -> CardTask {
     unsent(counter)
 }
 
-/// The counter's first answer, from a body that belongs to no machine.
 fn answer_of_another_body<R: Abort>(rt: &R, alloc: Global) -> CardFinished {
     task_of_another_body(rt, alloc).call()
 }
 
-/// Compares the counter's first answer.
 fn assert_first_answer<R: Abort>(rt: &R, finished: &CardFinished) {
     same(rt, "process", finished.process(), 0);
     same(rt, "card", finished.card(), COUNTER);
@@ -54,13 +50,12 @@ fn assert_first_answer<R: Abort>(rt: &R, finished: &CardFinished) {
     same(rt, "last", finished.last(), None);
 }
 
-/// Compares a machine to which the counter's first answer alone was committed.
 fn assert_one_commit<R: Abort>(rt: &R, machine: &CardMachine) {
     same(rt, "history", machine.history(), [PUT_1].as_slice());
     same(rt, "commits", machine.commits(), 1);
 }
 
-/// Commits the counter's first answer again, which is handed back and changes nothing.
+/// Commits the counter's first answer again: it comes back, and nothing changes.
 fn refuse_again<R: Abort>(
     rt: &R,
     machine: &mut CardMachine,
@@ -73,22 +68,18 @@ fn refuse_again<R: Abort>(
     finished
 }
 
-/// Takes both processes, and returns the answer of the counter.
 fn counter_answers<R: Abort>(rt: &R, alloc: Global, machine: &mut CardMachine) -> CardFinished {
     let mut tasks = Vec::new(alloc);
     take_all(rt, machine, &mut tasks);
     answer_of(rt, &mut tasks, 0)
 }
 
-/// Commits the counter's first answer, which was asked for.
 fn accept_first<R: Abort>(rt: &R, machine: &mut CardMachine, finished: CardFinished) {
     let outcome = outcome_of(rt, machine, finished);
     same(rt, "outcome", outcome, Done(1));
     assert_one_commit(rt, machine);
 }
 
-/// Commits the counter's first answer while the counter is not out; it is handed back and changes
-/// nothing.
 fn refuse_fresh<R: Abort>(
     rt: &R,
     machine: &mut CardMachine,
@@ -100,7 +91,6 @@ fn refuse_fresh<R: Abort>(
     finished
 }
 
-/// Takes the task of the counter after its first token.
 fn second_task<R: Abort>(rt: &R, machine: &mut CardMachine) -> CardTask {
     let task = take(rt, machine);
     same(rt, "process", task.process(), 0);
@@ -110,8 +100,7 @@ fn second_task<R: Abort>(rt: &R, machine: &mut CardMachine) -> CardTask {
     task
 }
 
-/// Refuses the counter's first answer while the counter is out in its next state, whose answer has to
-/// wait.
+/// Commits the counter's first answer while the counter is out with its second task, which then parks.
 fn refuse_while_out<R: Abort>(rt: &R, machine: &mut CardMachine, finished: CardFinished) {
     let task = second_task(rt, machine);
     refuse_again(rt, machine, finished);
@@ -120,7 +109,6 @@ fn refuse_while_out<R: Abort>(rt: &R, machine: &mut CardMachine, finished: CardF
     same(rt, "commits", machine.commits(), 2);
 }
 
-/// Commits the counter's first answer, and then the same from another body.
 fn answer_twice<R: Abort>(rt: &R, alloc: Global, machine: &mut CardMachine) {
     let second = answer_of_another_body(rt, alloc);
     let finished = counter_answers(rt, alloc, machine);
@@ -129,8 +117,7 @@ fn answer_twice<R: Abort>(rt: &R, alloc: Global, machine: &mut CardMachine) {
     refuse_while_out(rt, machine, second);
 }
 
-/// The counter's first answer comes a second time: while the counter is ready, and while it is out in
-/// another state.
+/// The counter's first answer comes again: while the counter is ready, and while it is out in another state.
 #[test]
 fn an_answer_that_was_not_asked_for_is_handed_back(rt: HostRuntime) {
     let mut machine = machine_of(&rt, rt.alloc(), SINK_OF_THREE);
@@ -138,15 +125,13 @@ fn an_answer_that_was_not_asked_for_is_handed_back(rt: HostRuntime) {
     drop(machine);
 }
 
-/// Commits the counter's answer from one machine to the other, and then to the machine that asked.
 fn ask_one<R: Abort>(rt: &R, alloc: Global, one: &mut CardMachine, other: &mut CardMachine) {
     let finished = counter_answers(rt, alloc, one);
     let finished = refuse_fresh(rt, other, finished);
     accept_first(rt, one, finished);
 }
 
-/// The counter's answer from one machine is committed to the other while its counter is not out: it is
-/// handed back, and then accepted by the machine that asked for it.
+/// The other machine's counter is not out, so the answer comes back; the machine that asked takes it.
 #[test]
 fn an_answer_of_another_machine_is_handed_back(rt: HostRuntime) {
     let mut one = machine_of(&rt, rt.alloc(), SINK_OF_THREE);
@@ -156,14 +141,12 @@ fn an_answer_of_another_machine_is_handed_back(rt: HostRuntime) {
     drop(other);
 }
 
-/// Commits what the counter answers after its first token, which has to wait.
 fn park_second<R: Abort>(rt: &R, alloc: Global, machine: &mut CardMachine) {
     let mut tasks = Vec::new(alloc);
     let outcome = commit_of(rt, machine, &mut tasks, 0);
     same(rt, "outcome", outcome, Parked(0));
 }
 
-/// Commits to the second machine the counter's answer from the first, and then its own.
 fn ask_both<R: Abort>(rt: &R, alloc: Global, one: &mut CardMachine, other: &mut CardMachine) {
     let finished = counter_answers(rt, alloc, one);
     let own = counter_answers(rt, alloc, other);
@@ -172,8 +155,7 @@ fn ask_both<R: Abort>(rt: &R, alloc: Global, one: &mut CardMachine, other: &mut 
     park_second(rt, alloc, other);
 }
 
-/// If both machines ask the same, the answer from one is as good as the answer from the other; the one
-/// that comes second is handed back.
+/// Both machines ask the same, so either takes the answer of the other; a second answer comes back.
 #[test]
 fn an_answer_to_the_same_question_is_taken_once(rt: HostRuntime) {
     let mut one = machine_of(&rt, rt.alloc(), SINK_OF_THREE);
@@ -183,14 +165,12 @@ fn an_answer_to_the_same_question_is_taken_once(rt: HostRuntime) {
     drop(other);
 }
 
-/// An answer that was asked for.
 fn assert_asked<R: Abort>(rt: &R, machine: &CardMachine, finished: &CardFinished)
     ensures { IsOut machine.now finished.now }
 {
     assert!(rt; machine.has_asked(finished));
 }
 
-/// Commits the counter's first answer, which was asked for, at once.
 fn take_at_once<R: Abort>(rt: &R, machine: &mut CardMachine, finished: CardFinished) {
     assert_asked(rt, machine, &finished);
     let outcome = machine.commit_asked(finished);
@@ -198,8 +178,7 @@ fn take_at_once<R: Abort>(rt: &R, machine: &mut CardMachine, finished: CardFinis
     assert_one_commit(rt, machine);
 }
 
-/// The counter's first answer is taken without being compared again, since the machine said that it had
-/// asked for it.
+/// `has_asked` has compared the answer, so `commit_asked` doesn't.
 #[test]
 fn an_answer_that_was_asked_for_is_taken_at_once(rt: HostRuntime) {
     let mut machine = machine_of(&rt, rt.alloc(), SINK_OF_THREE);
@@ -208,8 +187,7 @@ fn an_answer_that_was_asked_for_is_taken_at_once(rt: HostRuntime) {
     drop(machine);
 }
 
-/// Asks for the counter's first task while the counter is ready, while it is out with that task, and
-/// while it is out with its second; and for the second.
+/// Asks for the first task while the counter is ready, out with it, out with the second; and for the second.
 fn know_tasks<R: Abort>(rt: &R, alloc: Global, machine: &mut CardMachine) {
     let first = task_of_another_body(rt, alloc);
     let ready = machine.has_sent(&first);
@@ -226,7 +204,6 @@ fn know_tasks<R: Abort>(rt: &R, alloc: Global, machine: &mut CardMachine) {
     same(rt, "known", known, [false, true, false, true]);
 }
 
-/// A task is known while its process is out, in the state that the task has.
 #[test]
 fn a_task_is_known_while_its_process_is_out(rt: HostRuntime) {
     let mut machine = machine_of(&rt, rt.alloc(), SINK_OF_THREE);

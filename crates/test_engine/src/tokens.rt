@@ -1,5 +1,4 @@
-//! Files of tokens, and what is read of them and written in them. What is due was worked out by hand, or is what
-//! Python's struct, wave and csv modules read and write.
+//! Files of tokens. Values due are worked out by hand, or with Python's struct, wave and csv modules.
 use crate::checks::same;
 use kpn_tokens::{Layout, Sort, Token, append_tokens, read_tokens};
 use std::alloc::Global;
@@ -11,12 +10,12 @@ mod lines;
 mod samples;
 mod tables;
 
-/// The word for a number below zero, of which this is the magnitude.
+/// Returns the word of `-number`.
 pub(crate) fn minus(number: u64) -> u64 {
     0u64.wrapping_sub(number)
 }
 
-/// Reads words of bytes, and writes them.
+/// Reads words from bytes, and writes the bytes again.
 pub(crate) fn reads_and_writes(
     rt: &impl Abort,
     alloc: Global,

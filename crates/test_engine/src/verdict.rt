@@ -1,4 +1,4 @@
-//! Verdicts on runs, each worked out by hand from where the run left the processes.
+//! Verdicts on runs, worked out by hand from where a run left the processes.
 use crate::checks::same;
 use crate::picture::{COUNTER, LOOP, LOOP_PLACES, net_of};
 use kpn_net::{End, Net, Place};
@@ -7,7 +7,6 @@ use kpn_verdict::{Verdict, push_verdict, verdict_of, verdict_text};
 use std::alloc::Global;
 use std::process::Abort;
 
-/// Compares the line of the verdict on a run that left the processes so.
 fn judge<R: Abort>(
     rt: &R,
     alloc: Global,
@@ -37,7 +36,7 @@ fn a_deadlock_is_a_cycle_or_ran_dry(rt: HostRuntime) {
     drop(counter);
 }
 
-/// Three filters in a ring: tokens would flow from the first to the second, the third and the first.
+/// Three filters in a ring: a writes to b, b to d, d to a.
 const RING: &str = r#"version = 1
 process = [
     { name = "a", kind = "scale", args = [1] },
@@ -72,7 +71,6 @@ fn words_of_a_verdict_are_appended(rt: HostRuntime) {
     same(&rt, "words", title.as_str(), "title: cycle ad c2 cp c1");
 }
 
-/// The verdict on each other end.
 static ENDS: [(End, &str); 4] = [
     (End::Terminated, "verdict finished\n"),
     (End::Budget, "verdict cut\n"),

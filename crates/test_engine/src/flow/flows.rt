@@ -1,4 +1,4 @@
-//! Calls of a flow, with only such contracts as the tests need.
+//! Calls of a flow, with only the contracts that tests need.
 use crate::checks::same;
 use crate::networks::{Parts, parts_of};
 use kpn_body::Standard;
@@ -10,7 +10,6 @@ use std::process::Abort;
 
 pub(crate) type CardFlow = Flow<CardBody<Standard>>;
 
-/// Opens a flow of the network of a description.
 pub(crate) fn flow_of<R: Abort>(
     rt: &R,
     alloc: Global,
@@ -22,7 +21,7 @@ pub(crate) fn flow_of<R: Abort>(
     opened(rt, alloc, parts, inputs, outputs)
 }
 
-/// Opens a flow; only memory may be refused.
+/// Opens a flow; this may fail only for lack of memory.
 pub(crate) fn opened<R: Abort>(
     rt: &R,
     alloc: Global,
@@ -39,21 +38,20 @@ pub(crate) fn opened<R: Abort>(
     }
 }
 
-/// Feeds a word into an input, and returns whether there was room.
+/// Feeds a word, and returns whether there was room.
 pub(crate) fn feed<R: Abort>(rt: &R, flow: &mut CardFlow, channel: usize, word: u64) -> bool {
     let token = Token::Word(word);
     assert!(rt; flow.may_feed(channel, token));
     flow.feed(channel, token)
 }
 
-/// Feeds words into an input that has room for them.
 pub(crate) fn feed_words<R: Abort>(rt: &R, flow: &mut CardFlow, channel: usize, words: &[u64]) {
     for word in words {
         same(rt, "fed", feed(rt, flow, channel, *word), true);
     }
 }
 
-/// Feeds a batch into an input, and returns for how many tokens there was room.
+/// Feeds a batch, and returns for how many tokens there was room.
 pub(crate) fn feed_batch<R: Abort>(
     rt: &R,
     flow: &mut CardFlow,
@@ -64,13 +62,11 @@ pub(crate) fn feed_batch<R: Abort>(
     flow.feed_all(channel, batch)
 }
 
-/// Drains one token of an output.
 pub(crate) fn drain<R: Abort>(rt: &R, flow: &mut CardFlow, channel: usize) -> Option<Token> {
     assert!(rt; flow.is_output(channel));
     flow.drain(channel)
 }
 
-/// Drains an output into a buffer, and returns how many tokens came.
 pub(crate) fn drain_buffer<R: Abort>(
     rt: &R,
     flow: &mut CardFlow,
@@ -81,7 +77,7 @@ pub(crate) fn drain_buffer<R: Abort>(
     flow.drain_into(channel, buffer)
 }
 
-/// Drains an output, which holds these words and no more.
+/// Drains an output that holds these words and no more.
 pub(crate) fn drain_words<R: Abort>(rt: &R, flow: &mut CardFlow, channel: usize, words: &[u64]) {
     for word in words {
         same(

@@ -1,6 +1,6 @@
 //! The networks of the tests of flows.
 
-/// Words come in over channel 0 of two places, and go out three times as great over channel 1 of one.
+/// Words come in through channel 0 of capacity 2; three times each goes out through channel 1 of capacity 1.
 pub(crate) const SCALE: &str = "version = 1
 process = [
     { name = \"src\", kind = \"count\", args = [0, 0] },
@@ -13,8 +13,8 @@ channel = [
 ]
 ";
 
-/// Words come in over channels 0 and 1. Their sums are summed up by way of channel 4, which goes back,
-/// and go out over channel 5.
+/// Words of channels 0 and 1 are added. The running sums go back through channel 4, and out through channel
+/// 5.
 pub(crate) const RUNNING_SUM: &str = "version = 2
 process = [
     { name = \"x\", kind = \"count\", args = [0, 0] },
@@ -34,7 +34,7 @@ channel = [
 ]
 ";
 
-/// Words come in over channel 0, of which the sink reads two.
+/// The sink reads two of the words that come in through channel 0.
 pub(crate) const SINK_OF_TWO: &str = "version = 1
 process = [
     { name = \"src\", kind = \"count\", args = [0, 0] },
@@ -45,8 +45,7 @@ channel = [
 ]
 ";
 
-/// Two words go out over channel 0 of one place; and of two words on channel 1 of one place the sink
-/// reads none, so that it grows once nothing else goes on.
+/// Two words go out through channel 0. Channel 1 must grow: its sink reads none of two words.
 pub(crate) const OUTPUT_AND_GROWTH: &str = "version = 1
 process = [
     { name = \"k0\", kind = \"count\", args = [7, 2] },

@@ -8,7 +8,6 @@ use kpn_flow::{Flow, FlowFault, FlowRefused, stops_at_once};
 use std::alloc::Global;
 use std::process::Abort;
 
-/// Compares what was handed back: the fault, and all bodies.
 fn assert_handed_back<R: Abort>(
     rt: &R,
     refused: &FlowRefused<CardBody<Standard>>,
@@ -20,7 +19,6 @@ fn assert_handed_back<R: Abort>(
     same(rt, "bodies", refused.bodies.len(), bodies);
 }
 
-/// Tries to open a flow that is refused.
 fn refuse<R: Abort>(
     rt: &R,
     alloc: Global,
@@ -43,7 +41,6 @@ fn fresh<R: Abort>(rt: &R, alloc: Global) -> Parts {
     parts_of(rt, alloc, SCALE).expect(rt, "no memory for the parts")
 }
 
-/// Inputs, outputs, and the fault that these have.
 static FAULTS: [(&[usize], &[usize], FlowFault); 8] = [
     (&[2], &[], FlowFault::Channel),
     (&[], &[1, 2], FlowFault::Channel),
@@ -63,7 +60,6 @@ fn inputs_and_outputs_are_checked(rt: HostRuntime) {
     }
 }
 
-/// Compares whether a process stops at once.
 fn stops<R: Abort>(rt: &R, parts: &Parts, process: usize, due: bool) {
     assert!(rt; process < parts.bodies.len());
     let found = stops_at_once(parts.bodies.as_slice(), process);

@@ -1,4 +1,4 @@
-//! Flows that are fed and drained, and why each comes back.
+//! Flows that are fed and drained, and why each pauses.
 use crate::checks::same;
 use crate::flow::flows::{
     CardFlow, drain_buffer, drain_words, feed, feed_batch, feed_words, flow_of,
@@ -10,29 +10,28 @@ use kpn_report::places_of;
 use std::alloc::Global;
 use std::process::Abort;
 
-/// What is done with a flow, and what comes of it.
+/// A call of a flow, and what it gives.
 enum Step {
-    /// It goes on by at most so many entries, and comes back for this cause.
+    /// Runs at most this many entries, and pauses for this cause.
     Advance(u64, Pause),
-    /// Words are fed into an input that has room for them.
+    /// Feeds words into an input with room for them.
     Feed(usize, &'static [u64]),
-    /// A word more is fed into an input that is full.
+    /// Feeds a word into a full input.
     Full(usize, u64),
-    /// An output is drained, which holds these words and no more.
+    /// Drains an output that holds these words and no more.
     Drain(usize, &'static [u64]),
-    /// Whether the reader of a channel waits for a token.
+    /// Whether a channel's reader waits for a token.
     Starved(usize, bool),
-    /// Whether the writer of a channel waits for room.
+    /// Whether a channel's writer waits for room.
     HeldUp(usize, bool),
-    /// Whether a channel has room for a token more.
+    /// Whether a channel has room for a token.
     Room(usize, bool),
-    /// Whether nothing more is done unless more is fed.
+    /// Whether nothing more comes out unless more is fed.
     Exhausted(bool),
-    /// How many entries there were, and how many of them were growths.
+    /// The entries, and the growths among them.
     Counts(u64, u64),
 }
 
-/// Does one thing with a flow, and compares what comes of it.
 fn take_step<R: Abort>(rt: &R, flow: &mut CardFlow, step: &Step) {
     match step {
         Step::Advance(most, due) => same(rt, "pause", flow.advance(*most), *due),
@@ -50,7 +49,6 @@ fn take_step<R: Abort>(rt: &R, flow: &mut CardFlow, step: &Step) {
     }
 }
 
-/// Does one thing after the other.
 fn play<R: Abort>(rt: &R, flow: &mut CardFlow, steps: &[Step]) {
     for step in steps {
         take_step(rt, flow, step);
@@ -83,7 +81,7 @@ static SCALED: [Step; 18] = [
     STARVED,
     Step::Drain(1, &[27]),
     STARVED,
-    // Two stops, and for each of three words a read and a write by the one that scales; none grew.
+    // Two stops, and a read and a write for each of three words; no growth.
     Step::Counts(8, 0),
 ];
 
@@ -118,7 +116,7 @@ static CUT: [Step; 7] = [
     Step::Advance(0, Pause::Cut),
     Step::Advance(1, Pause::Cut),
     Step::Drain(1, &[]),
-    // Two stops, a read, a write and a read: one entry is left, and two are wanted.
+    // Two stops, a read, a write and a read: one entry of six is left, and `advance` needs two.
     Step::Advance(6, Pause::Cut),
     Step::Advance(2, Pause::Blocked),
     Step::Drain(1, &[15]),
@@ -205,7 +203,6 @@ fn a_channel_grows_where_the_outside_can_not_help(rt: HostRuntime) {
     drop(flow);
 }
 
-/// Compares the places of the processes.
 fn assert_places<R: Abort>(rt: &R, alloc: Global, flow: &CardFlow, due: &[Place]) {
     let places = places_of(alloc, flow.net(), flow.standings()).expect(rt, "no memory");
     same(rt, "places", places.as_slice(), due);

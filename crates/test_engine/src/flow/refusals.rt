@@ -1,4 +1,4 @@
-//! One request for memory is refused, whichever it is.
+//! Tests that pass whichever request for memory fails.
 use crate::checks::same;
 use crate::flow::flows::{CardFlow, drain_words, opened};
 use crate::flow::networks::OUTPUT_AND_GROWTH;
@@ -9,7 +9,7 @@ use std::alloc::{AllocError, Global};
 use std::process::Abort;
 use std::test::Fail;
 
-/// Which request for memory was refused, of those after which a flow can go on.
+/// The failed request, among those after which a flow can continue.
 #[derive(Clone, Copy)]
 enum Refused {
     Nothing,
@@ -17,7 +17,7 @@ enum Refused {
     Growth,
 }
 
-/// Opens a flow, and tries again with what was handed back if memory was refused.
+/// Opens a flow; if out of memory, opens it again with the parts returned.
 fn open_again<R: Abort>(rt: &R, alloc: Global, parts: Parts) -> (CardFlow, Refused) {
     match Flow::open(alloc, parts.net, parts.bodies, &[], &[0]) {
         Ok(flow) => (flow, Refused::Nothing),
@@ -32,8 +32,7 @@ fn open_again<R: Abort>(rt: &R, alloc: Global, parts: Parts) -> (CardFlow, Refus
     }
 }
 
-/// Goes on to the end, again if the growth was refused, and returns which request was refused: that of the
-/// growth, or what was refused at the opening.
+/// Runs to the end, again if the growth failed, and returns which request failed: the growth's, or `opening`.
 fn grow<R: Abort>(rt: &R, flow: &mut CardFlow, opening: Refused) -> Refused {
     same(rt, "output", flow.advance(100), Pause::Blocked);
     drain_words(rt, flow, 0, &[7]);
@@ -45,7 +44,6 @@ fn grow<R: Abort>(rt: &R, flow: &mut CardFlow, opening: Refused) -> Refused {
     if is_refused { Refused::Growth } else { opening }
 }
 
-/// Makes a flow that needs a growth, and returns which request was refused.
 fn growing_flow<R: Abort>(rt: &R, alloc: Global) -> Result<Refused, AllocError> {
     let parts = parts_of(rt, alloc, OUTPUT_AND_GROWTH)?;
     let (mut flow, opening) = open_again(rt, alloc, parts);
@@ -54,7 +52,7 @@ fn growing_flow<R: Abort>(rt: &R, alloc: Global) -> Result<Refused, AllocError> 
     Ok(refused)
 }
 
-/// Passes whichever request for memory is refused, and prints which one was.
+/// Prints which request failed; tests/refuse_each_allocation_of_the_library makes each fail in turn.
 #[test]
 fn a_refused_request_is_told(rt: HostRuntime) -> Result<(), Fail> {
     let word = match growing_flow(&rt, rt.alloc()) {

@@ -13,7 +13,7 @@ use std::process::Abort;
 
 type Kinds = Both<Standard, Exits>;
 
-/// Each word goes to y and to z; the first that goes to z is 9, and then come the words.
+/// Each word goes to y, and to z after a 9.
 const PAIRS: &str = r#"version = 1
 process = [
   { name = "src", kind = "count", args = [0, 0] },
@@ -30,12 +30,10 @@ channel = [
 ]
 "#;
 
-/// The name of a channel.
 fn name<R: Abort>(rt: &R, alloc: Global, name: &str) -> Text {
     Text::new(String::from_str(alloc, name).expect(rt, "no memory"))
 }
 
-/// A table with as many columns of whole numbers.
 fn table_of<R: Abort>(rt: &R, alloc: Global, table: Table, width: usize) -> LaidTable<Vec<u8>> {
     let mut columns = Vec::new(alloc);
     for _ in 0..width {
@@ -48,8 +46,7 @@ fn table_of<R: Abort>(rt: &R, alloc: Global, table: Table, width: usize) -> Laid
     }
 }
 
-/// What is left of the stream of pairs of these words, into a sink for each of the first channels that are drained, so
-/// many, and one table for the others.
+/// Streams words through `PAIRS`: the first `sinks` drained channels have a sink each, the others one table.
 fn paired<'a, R: Abort>(
     rt: &R,
     alloc: Global,
@@ -83,7 +80,7 @@ fn paired<'a, R: Abort>(
     serve(alloc, stream, sources, outlets, tables).expect(rt, "no memory")
 }
 
-/// How many tokens a column took, if there is one at this place, and how many of them were clipped.
+/// The tokens that a column took, and those of them that were clipped.
 fn counted(table: &TableOutlet<Vec<u8>>, place: usize) -> Option<(u64, u64)> {
     if place < table.width() {
         Some((table.tokens(place), table.clipped(place)))
@@ -92,7 +89,6 @@ fn counted(table: &TableOutlet<Vec<u8>>, place: usize) -> Option<(u64, u64)> {
     }
 }
 
-/// What was written to the one table.
 fn written<R: Abort>(rt: &R, tables: &mut Vec<TableOutlet<Vec<u8>>>) -> Vec<u8> {
     tables.pop().expect(rt, "no table").into_sink()
 }
@@ -146,7 +142,6 @@ fn a_table_stands_behind_the_sinks(rt: HostRuntime) {
     drop(served);
 }
 
-/// Samples of so many bytes, signed.
 fn samples(width: Width, clips: bool) -> Table {
     Table::Samples(Sample {
         width,
@@ -211,7 +206,7 @@ fn a_word_does_not_fit_a_column(rt: HostRuntime) {
     drop(served);
 }
 
-/// y has the words of x, and v has 9 alone, since nothing comes into u.
+/// y has 8 and then the words of x; v has 9 alone, since nothing comes into u.
 const APART: &str = r#"version = 1
 process = [
   { name = "src", kind = "count", args = [0, 0] },
@@ -229,8 +224,7 @@ channel = [
 ]
 "#;
 
-/// How a stream of so many words into a table ends of which the other channel has one token, and how many bytes were
-/// written.
+/// Streams words through `APART`, and returns how that ends and the bytes of the table.
 fn apart<R: Abort>(rt: &R, alloc: Global, words: usize) -> (Finish, usize) {
     let mut text = Vec::new(alloc);
     for _ in 0..words {
@@ -260,7 +254,7 @@ fn apart<R: Abort>(rt: &R, alloc: Global, words: usize) -> (Finish, usize) {
     end
 }
 
-/// The first row is `8,9`, and then come rows of 7 alone.
+/// The first row is `8,9`; then come rows of 7 alone.
 #[test]
 fn a_channel_may_be_ahead(rt: HostRuntime) {
     let few = apart(&rt, rt.alloc(), 3);

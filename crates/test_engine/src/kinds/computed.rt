@@ -1,4 +1,4 @@
-//! The bodies of a network of standard kinds; and names that two families have.
+//! The bodies of a network of standard kinds, and names that two families have.
 use crate::checks::same;
 use kpn_body::Body;
 use kpn_compute::{Both, CardBody, Computes, bodies_of};
@@ -27,7 +27,6 @@ from = \"src\"
 to = \"snk\"
 ";
 
-/// What the body of each process answers at the start.
 fn first_answers<K: Computes>(alloc: Global, net: &Net<K>) -> Result<Vec<Answer>, AllocError> {
     let mut answers = Vec::new(alloc);
     for body in bodies_of(alloc, net)? {
@@ -38,12 +37,10 @@ fn first_answers<K: Computes>(alloc: Global, net: &Net<K>) -> Result<Vec<Answer>
     Ok(answers)
 }
 
-/// The sketch of the counter into the sink.
 fn sketch_of<R: Abort>(rt: &R, alloc: Global) -> Sketch {
     read_sketch(alloc, COUNTER_INTO_SINK.as_bytes()).expect(rt, "no sketch")
 }
 
-/// The first answers of the counter and of the sink.
 static FIRST: [Answer; 2] = [
     Answer {
         next: [1, 0, 0, 0],
@@ -65,7 +62,6 @@ fn each_process_has_its_body(rt: HostRuntime) {
     drop(sketch);
 }
 
-/// A network of this family is refused for its arguments.
 fn refuses_args<K: Kinds, R: Abort>(rt: &R, alloc: Global, sketch: &Sketch) {
     let checked: Result<Net<K>, _> = Net::check(alloc, sketch);
     assert!(rt; matches!(checked, Err(NetFault::Args)));

@@ -1,5 +1,5 @@
-//! What each kind for signals writes, alone, for the tokens of its inputs: worked out by hand, and by
-//! tests/interpreter.py. And the names, arguments, ports and lines of help.
+//! What each kind for signals writes, worked out by hand and with tests/interpreter.py; names, ports and
+//! help.
 ghost use Rattle.std.specs.Prelude.{◌<◌};
 
 use crate::checks::same;
@@ -12,12 +12,11 @@ use kpn_signals::{HELP, Help, Signal, Signals, answer};
 use kpn_standard::Standard;
 use std::process::Abort;
 
-/// The least signed number, and the greatest.
 const LEAST: u64 = 1 << 63;
 
 const GREATEST: u64 = LEAST - 1;
 
-/// A process: its kind, its arguments, the tokens of its inputs, what it writes, and what it wants then.
+/// A kind, its arguments, the tokens of its two inputs, what it writes, and its act then.
 type Row = (
     Signal,
     [u64; 3],
@@ -393,11 +392,11 @@ static ROWS: [Row; 40] = [
     ),
 ];
 
-/// The longest row has fewer acts.
+/// More acts than any row takes.
 const MOST_ACTS: usize = 64;
 
-/// Goes on with a process until it asks for what isn't there, and compares what it writes until then.
-/// Returns what it asked for, and whether it has written all that is due.
+/// Runs a process until it stops, reads an empty input, or writes more than is due. Returns that act, and
+/// whether it has written all that is due.
 fn follow<R: Abort>(rt: &R, row: &Row) -> (Act, bool) {
     let (kind, args, first, second, due, _) = *row;
     let mut first = first.iter();
@@ -445,7 +444,7 @@ const W: Option<Sort> = Some(Sort::Words);
 
 const F: Option<Sort> = Some(Sort::Flags);
 
-/// How a line of help shows ports, and the inputs and the outputs.
+/// A line of help's ports, and the inputs and outputs that they mean.
 static PORTS: [(&str, [Option<Sort>; 3], [Option<Sort>; 3]); 10] = [
     ("-> w", [None, None, None], [W, None, None]),
     ("-> f", [None, None, None], [F, None, None]),
@@ -459,7 +458,7 @@ static PORTS: [(&str, [Option<Sort>; 3], [Option<Sort>; 3]); 10] = [
     ("w f -> w", [W, F, None], [W, None, None]),
 ];
 
-/// The ports that a line of help shows; of a line that shows none, more than any kind has.
+/// Returns the ports of a line of help; for an unknown line, more than any kind has.
 fn ports_of(text: &str) -> Signature {
     for (shape, ins, outs) in &PORTS {
         if *shape == text {
@@ -475,7 +474,6 @@ fn ports_of(text: &str) -> Signature {
     }
 }
 
-/// How many arguments a line of help shows.
 fn arguments_of(text: &str) -> usize {
     match text {
         "" => 0,
@@ -486,10 +484,9 @@ fn arguments_of(text: &str) -> usize {
 
 const KINDS: u16 = 21;
 
-/// The lines of help, held once: a constant is made anew where it is named.
+/// A static, since a constant is built anew at each use.
 static LINES: [Help; 21] = HELP;
 
-/// Compares a line of help with the kind of this number.
 fn compare_help<R: Abort>(rt: &R, number: u16, help: &Help)
     requires { number < 21 }
 {
@@ -535,7 +532,7 @@ fn help_lists_the_kinds(rt: HostRuntime) {
     same(&rt, "named", meant::<Signals>("count"), None);
 }
 
-/// A kind's number, arguments, and whether they are accepted.
+/// A kind's number, arguments, and whether it accepts them.
 static ARGUMENTS: [(u16, [u64; 3], bool); 27] = [
     (2, [0, 0, 0], true),
     (2, [1, 0, 0], false),
@@ -578,7 +575,7 @@ fn signals_accept_arguments(rt: HostRuntime) {
     }
 }
 
-/// The local state in which a process of a card begins, and its first answer.
+/// Returns the first local state of a card, and its first answer.
 fn begun<K: Computes>(card: Card) -> Option<(Local, Answer)> {
     K::signature(&card)?;
     K::starts(card);

@@ -1,4 +1,4 @@
-//! Each line of each kind, with numbers of its own; the names, the arguments and the ports.
+//! Each line of each standard kind, with numbers of its own; the names, arguments and ports.
 use crate::checks::same;
 use crate::kinds::{meant, ports_given};
 use kpn_body::{
@@ -464,7 +464,7 @@ fn select_follows_its_lines(rt: HostRuntime) {
     );
 }
 
-/// A name, and the number of the kind that it means with how many arguments the kind takes.
+/// A name, the number of its kind, and how many arguments the kind takes.
 static NAMES: [(&str, Option<(u16, usize)>); 17] = [
     ("count", Some((0, 2))),
     ("sink", Some((1, 1))),
@@ -492,7 +492,6 @@ fn names_have_numbers_and_counts(rt: HostRuntime) {
     }
 }
 
-/// Whether the kind is found by its number and by its name.
 fn is_found(kind: Kind, number: u16, name: &str) -> bool {
     Kind::numbered(number) == Some(kind) && Kind::called(name) == Some(kind)
 }
@@ -563,7 +562,7 @@ fn arguments_have_ports(rt: HostRuntime) {
     }
 }
 
-/// A kind's number, and arguments that it does not take.
+/// A kind's number, and arguments that it does not accept.
 static REFUSED: [(u16, [u64; 3]); 19] = [
     (0, [u64::MAX - 3, 4, 0]),
     (0, [u64::MAX, u64::MAX, 0]),

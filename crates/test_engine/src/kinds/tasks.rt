@@ -1,4 +1,4 @@
-//! Tasks of standard bodies: what the readers give, and two lines of the table of kinds.
+//! Tasks of standard bodies: their readers, and two lines of the table of kinds.
 ghost use Rattle.std.specs.Prelude.{◌≡◌, IsSome, IfOk};
 ghost use Rattle.kpn_standard.specs.Standard.{standard};
 ghost use Rattle.kpn_standard.specs.Signatures.{signature};
@@ -13,7 +13,7 @@ use std::alloc::{AllocError, Global};
 use std::process::Abort;
 use std::test::Fail;
 
-/// Asks process 5: its readers before and after the call, its answer, and the body back.
+/// Calls a task of process 5, compares its readers before and after, and returns the body.
 fn asked<B: Body>(
     rt: &impl Abort,
     body: B,
@@ -39,7 +39,7 @@ fn asked<B: Body>(
     Ok(finished.into_body())
 }
 
-/// Compares what a task and its answer hold, by `ask`, and with the answer alone, which a caller may keep beside the body.
+/// Asks a task of process 5 with `ask`, and takes its answer and body apart.
 fn asked_in_parts<B: Body>(
     rt: &impl Abort,
     body: B,
@@ -63,7 +63,6 @@ fn asked_in_parts<B: Body>(
     Ok(())
 }
 
-/// A body of a standard card, with a closure of its own.
 fn body_of(alloc: Global, card: Card) -> Result<StandardBody, AllocError>
     requires { IsSome (signature card) }
     ensures { IfOk result (λ b. b.card ≡ card) }
@@ -110,7 +109,7 @@ fn copy_writes_what_it_read(rt: HostRuntime) -> Result<(), Fail> {
     Ok(())
 }
 
-/// The counter's body is asked for its first answer, by the laws of its family.
+/// Asks for the first answer; `starts` of the family proves that the body may be asked.
 fn asks_first<B: Body>(rt: &impl Abort, body: B, expected: Answer) -> Result<(), Fail> {
     let card = body.card();
     let start = B::Kinds::start(&card);
@@ -134,7 +133,6 @@ fn count_from_its_start_writes_one(rt: HostRuntime) -> Result<(), Fail> {
     asks_first(&rt, body, expected)
 }
 
-/// A task for the start of its process is renewed: it asks the same body anew, and the body comes back from it.
 fn asked_anew<B: Body>(
     rt: &impl Abort,
     body: B,

@@ -1,4 +1,4 @@
-//! The condition of each fault, of single processes and channels of a sketch, against what the rules say.
+//! The condition of each fault, on single processes and channels of a sketch.
 use crate::checks::same;
 use crate::net::tests::{CountAndSink, sketch_of};
 use kpn_net::faults::{
@@ -10,7 +10,7 @@ use kpn_net::faults::{
 use kpn_net::{ChannelSketch, ProcessSketch, Signature, Sketch, Sort, TokenSketch};
 use std::process::Abort;
 
-/// Of these, `src` and `snk` and the channel between them, `c0`, are as they should be.
+/// Taken alone, `src`, `snk` and the first channel have no fault.
 const TEXT: &str = "version = 2
 process = [
   { name = \"src\", kind = \"count\", args = [1, 3] },
@@ -27,8 +27,7 @@ channel = [
 ]
 ";
 
-/// What holds of a process: its kind is unknown, takes another number of arguments, or the arguments are
-/// wrong; and a port of it is unused.
+/// Unknown kind; wrong number of arguments; wrong arguments; unused port.
 static PROCESSES: [(&str, [bool; 4]); 5] = [
     ("src", [false, false, false, false]),
     ("snk", [false, false, false, false]),
@@ -37,8 +36,7 @@ static PROCESSES: [(&str, [bool; 4]); 5] = [
     ("neg", [false, false, true, false]),
 ];
 
-/// What holds of a channel: an end is missing, its sort, its capacity in version 2 and in version 1, or
-/// its start tokens are wrong; and the sorts of its ports.
+/// Missing end; wrong sort; wrong capacity in version 2, in version 1; wrong start tokens. The ports' sorts.
 type Row = ([bool; 5], Option<Sort>, Option<Sort>);
 
 static CHANNELS: [Row; 4] = [
@@ -79,12 +77,10 @@ fn holds_of_channel(sketch: &Sketch, channel: &ChannelSketch) -> Row {
     )
 }
 
-/// The process of a name that is in the sketch.
 fn process_of<'a, R: Abort>(rt: &R, sketch: &'a Sketch, name: &str) -> &'a ProcessSketch {
     process_named(sketch.processes.as_slice(), name).expect(rt, "no such process")
 }
 
-/// The channel of a number that is in the sketch.
 fn channel_of<'a, R: Abort>(rt: &R, sketch: &'a Sketch, number: usize) -> &'a ChannelSketch {
     sketch
         .channels
@@ -123,7 +119,6 @@ fn judges_each_channel(rt: HostRuntime) {
     drop(sketch);
 }
 
-/// The ports of a process of a name that is in the sketch.
 fn ports_of<R: Abort>(rt: &R, sketch: &Sketch, name: &str) -> Signature {
     signature_of::<CountAndSink>(process_of(rt, sketch, name)).expect(rt, "no ports")
 }
@@ -145,7 +140,6 @@ fn compare_ports<R: Abort>(rt: &R, sketch: &Sketch) {
     same(rt, "ins", ins, [false, true, false]);
 }
 
-/// A channel leads from `src` and to `snk`, but none from `neg` or to `src`.
 #[test]
 fn finds_unused_ports(rt: HostRuntime) {
     let sketch = sketch_of(&rt, rt.alloc(), TEXT);
@@ -196,7 +190,7 @@ fn judges_names_ports_and_tokens(rt: HostRuntime) {
     same(&rt, "tokens", tokens, due);
 }
 
-/// Whether two channels have one name, begin at one port, and end at one.
+/// Whether two channels share a name, an output, an input.
 fn clashes(one: &ChannelSketch, other: &ChannelSketch) -> [bool; 3] {
     [
         <SameName as Clash<ChannelSketch>>::clash(one, other),

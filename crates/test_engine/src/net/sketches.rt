@@ -1,4 +1,4 @@
-//! The sketch of a counter into a sink, its network of standard kinds, and what is refused of either.
+//! The sketch and the network of a counter into a sink, and faults of each.
 use crate::checks::same;
 use crate::net::tests::{CARDS, COUNTER, ENDS, sketch_of};
 use kpn_body::Standard;
@@ -8,7 +8,6 @@ use kpn_net::{
 use std::alloc::Global;
 use std::process::Abort;
 
-/// Compares a process of a sketch.
 fn compare_process<R: Abort>(
     rt: &R,
     process: &ProcessSketch,
@@ -25,7 +24,6 @@ fn compare_process<R: Abort>(
     );
 }
 
-/// Compares the channel of the counter's sketch.
 fn compare_channel<R: Abort>(rt: &R, channel: &ChannelSketch) {
     let names = [
         channel.name.as_str(),
@@ -42,7 +40,6 @@ fn compare_channel<R: Abort>(rt: &R, channel: &ChannelSketch) {
     );
 }
 
-/// Compares the counter's sketch.
 fn compare_sketch<R: Abort>(rt: &R, sketch: &Sketch) {
     same(rt, "sketch", [sketch.version, sketch.budget], [1, 10000]);
     match (sketch.processes.as_slice(), sketch.channels.as_slice()) {
@@ -55,7 +52,6 @@ fn compare_sketch<R: Abort>(rt: &R, sketch: &Sketch) {
     }
 }
 
-/// Compares the counter's network of standard kinds.
 fn compare_net<R: Abort>(rt: &R, net: &Net<Standard>) {
     assert!(rt; net.processes() == 2 && net.channels() == 1);
     same(rt, "cards", [net.card(0), net.card(1)], CARDS);
@@ -81,7 +77,7 @@ fn a_sketch_is_read_and_checked(rt: HostRuntime) {
     drop(sketch);
 }
 
-/// The number of the fault of a text; 0 if it has none.
+/// Returns the number of a text's fault; 0 if it has none.
 fn number_of<R: Abort>(rt: &R, alloc: Global, text: &str) -> u8 {
     let sketch = sketch_of(rt, alloc, text);
     match Net::<Standard>::check(alloc, &sketch) {

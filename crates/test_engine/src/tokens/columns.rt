@@ -6,11 +6,10 @@ use kpn_tokens::{
     append_row, append_tokens, column_named, record_in, token_of_record,
 };
 
-/// What Python's csv.writer writes, with `;` between fields.
+/// Written by Python's csv.writer, with `;` between fields.
 const FILE: &[u8] =
     b"time;\"out; level\";note\r\n0;-1.5;\"a \"\"quoted\"\" note\"\r\n1;2,5;\"x;y\"\r\n";
 
-/// Decimals with two digits after the point.
 const LOG: Decimals = Decimals {
     digits: 2,
     is_unsigned: false,
@@ -38,7 +37,7 @@ fn finds_a_column_by_its_name(rt: HostRuntime) {
     same(&rt, "first of two", place, Ok(Ok(1)));
 }
 
-/// Lines with `;` between fields, the place of a column, and what it says.
+/// A line, the place of a column, and its token or fault.
 static SAID: [(&[u8], usize, Result<Option<Token>, RecordFault>); 14] = [
     (
         b"0;-1.5;\"a \"\"quoted\"\" note\"\r",

@@ -8,7 +8,7 @@ use kpn_tokens::{
 use std::alloc::AllocGlobal;
 use std::process::Abort;
 
-/// Two channels with 1, 100 and with -1, -100, as Python's wave module writes them in 8, 16, 24 and 32 bits.
+/// Two channels, 1, 100 and -1, -100, written by Python's wave module in 8, 16, 24 and 32 bits.
 static FILES: [(Width, &[u8]); 4] = [
     (
         Width::One,
@@ -59,7 +59,7 @@ fn reads_heads_and_writes_them(rt: HostRuntime) {
     }
 }
 
-/// The extensible form, of one channel in 24 bits, after a chunk of three bytes, and before another one.
+/// The extensible form: one channel in 24 bits, after a chunk of three bytes and before another chunk.
 const EXTENSIBLE: &[u8] =
     b"RIFFX\x00\x00\x00WAVELIST\x03\x00\x00\x00abc\x00fmt (\x00\x00\x00\xfe\xff\x01\x00\x80\xbb\x00\x00\x802\x02\x00\x03\x00\x18\x00\x16\x00\x18\x00\x04\x00\x00\x00\x01\x00\x00\x00\x00\x00\x10\x00\x80\x00\x00\xaa\x008\x9bqdata\x06\x00\x00\x00\x05\x00\x00\xfb\xff\xffid3 \x02\x00\x00\x00zz";
 
@@ -90,11 +90,11 @@ fn reads_the_extensible_form_piece_by_piece(rt: HostRuntime) {
     same(&rt, "cut short", fault, Err(WavFault::CutShort));
 }
 
-/// What stands in a WAV file of one channel in 8 bits before the bytes of its first chunk of other bytes.
+/// The first 40 bytes of a WAV file in 8 bits, up to the name of its chunk `junk`.
 const BEFORE_JUNK: &[u8] =
     b"RIFF\x00\x00\x00\x00WAVEfmt \x10\x00\x00\x00\x01\x00\x01\x00@\x1f\x00\x00@\x1f\x00\x00\x01\x00\x08\x00junk";
 
-/// A WAV file of eight samples, before which 52 bytes stand and so many other ones.
+/// Returns a WAV file of eight samples after 52 + `junk` bytes.
 fn long_headed<R: Abort + AllocGlobal>(rt: &R, junk: u32) -> Vec<u8> {
     let mut file = Vec::from_slice(rt.alloc(), BEFORE_JUNK).expect(rt, "no memory");
     file.extend_from_slice(&junk.to_le_bytes())
@@ -105,7 +105,6 @@ fn long_headed<R: Abort + AllocGlobal>(rt: &R, junk: u32) -> Vec<u8> {
     file
 }
 
-/// The first bytes of a file, so many.
 fn front<'a, R: Abort>(rt: &R, file: &'a [u8], length: usize) -> &'a [u8] {
     file.get(..length).expect(rt, "too short")
 }

@@ -6,8 +6,7 @@ use kpn_tokens::{
     first_line, read_tokens, token_of_record,
 };
 
-/// Words: in decimal and hexadecimal, with signs, comments, blanks, other columns, a byte order mark, and no line
-/// feed at the end.
+/// Words in decimal and hexadecimal, signs, comments, blanks, columns, a byte order mark, no last line feed.
 const WORDS: &[u8] =
     b"\xEF\xBB\xBF1\n  0x1F # thirty-one\n\n# nothing\n18446744073709551615,3,4\r\n\t-7\n+5\n-0X10\n-9223372036854775808";
 
@@ -23,7 +22,6 @@ fn reads_words_line_by_line(rt: HostRuntime) {
     same(&rt, "text", text.as_slice(), due.as_slice());
 }
 
-/// Decimals with two digits after the point, as they are written.
 const LOG: Decimals = Decimals {
     digits: 2,
     is_unsigned: false,
@@ -67,7 +65,7 @@ fn reads_flags_line_by_line(rt: HostRuntime) {
     same(&rt, "text", text.as_slice(), b"true\nfalse\n".as_slice());
 }
 
-/// Lines of two digits after the point, and what they say.
+/// A line read with two digits after the point, and its token or fault.
 static SAID: [(&[u8], Result<Option<Token>, RecordFault>); 20] = [
     (b"21.3", Ok(Some(Token::Word(2130)))),
     (b"21.", Ok(Some(Token::Word(2100)))),
@@ -99,7 +97,7 @@ fn tells_what_a_line_says(rt: HostRuntime) {
     }
 }
 
-/// Texts, how many bytes the first line of each has, and what that says.
+/// A text, the length of its first line in bytes, and that line's token or fault.
 static FIRST: [(&[u8], usize, Result<Option<Token>, RecordFault>); 9] = [
     (b"0\n", 1, Ok(Some(Token::Word(0)))),
     (b"-7\n8\n", 2, Ok(Some(Token::Word(18446744073709551609)))),

@@ -19,7 +19,7 @@ fn raw(width: Width, coding: Coding, endian: Endian) -> Layout {
     Layout::Frames(Frame::of(sample(width, coding, endian)))
 }
 
-/// The bytes of 1, -2, and the greatest and the least number of so many bytes, as Python writes them.
+/// 1, -2, the greatest and the least number, as Python writes them, little and big endian; half the range.
 static SIGNED: [(Width, &[u8], &[u8], u64); 5] = [
     (Width::One, b"\x01\xfe\x7f\x80", b"\x01\xfe\x7f\x80", 1 << 7),
     (
@@ -160,7 +160,7 @@ fn reads_flags_and_frames_cut_short(rt: HostRuntime) {
     );
 }
 
-/// How many bytes a sample has, and a frame with two bytes before it and five after it.
+/// The bytes of a sample, and of a frame with two bytes before it and five after it.
 #[test]
 fn samples_and_frames_have_bytes(rt: HostRuntime) {
     for (width, bytes, size) in [

@@ -16,7 +16,6 @@ const SHORT: Sample = Sample {
     clips: false,
 };
 
-/// Cells of whole numbers.
 fn cells(tokens: [Option<Token>; 3]) -> [Cell; 3] {
     tokens.map(|token| Cell {
         decimals: Decimals::WHOLE,
@@ -24,7 +23,7 @@ fn cells(tokens: [Option<Token>; 3]) -> [Cell; 3] {
     })
 }
 
-/// The frames of two channels: 1, 256 and -2 on the left, -1, 2 and 3 on the right.
+/// 1, 256 and -2 on the left, -1, 2 and 3 on the right.
 const STEREO: &[u8] = b"\x01\x00\xff\xff\x00\x01\x02\x00\xfe\xff\x03\x00";
 
 fn reads(rt: &impl Abort, alloc: Global, layout: Layout, bytes: &[u8], words: [u64; 3]) {
