@@ -5,14 +5,12 @@ use crate::checks::same;
 use kpn_machine::{Deed, Entry};
 use kpn_watch::{Board, Phase, Progress, Publisher, WatchFault, Watcher};
 
-/// Before the first entry.
 static NOTHING: Progress = Progress {
     entries: 0,
     growths: 0,
     phase: Phase::Running,
 };
 
-/// After the one entry and the end.
 static ENDED: Progress = Progress {
     entries: 1,
     growths: 0,
@@ -45,7 +43,6 @@ fn a_watcher_sees_what_is_published(rt: HostRuntime) {
     same(&rt, "full", WatchFault::Full.number(), 1);
 }
 
-/// Each phase of an end.
 #[test]
 fn phases_have_numbers(rt: HostRuntime) {
     let numbers = [
