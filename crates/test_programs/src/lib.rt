@@ -1,8 +1,8 @@
-//! Tests of the program `kpn` and of the examples: in `front` of kpn_front and kpn_args, in `serving` of kpn_execute, in
-//! `counting` of how often bodies are called, in `meeting` of bodies that wait for each other, in `refusals` of
-//! memory and threads that are refused while a network runs, in `looking` of how a flow stands, and in `examples` of example_own_kinds and
-//! example_least_room. They have a crate of their own so that these are proved once, and one crate so that what it uses is
-//! loaded once.
+//! Tests of the program `kpn` and of the examples: `front` of kpn_front and kpn_args, `serving` of
+//! kpn_execute, `counting` of how often bodies are called, `meeting` of bodies that wait for each other,
+//! `refusals` of failing memory and threads during a run, `looking` of a flow's state, and `examples` of
+//! example_own_kinds and example_least_room. They are outside those crates so that these are proved once, and
+//! in one crate so that its dependencies are loaded once.
 #![tactic(auto)]
 
 #[cfg(test)]
