@@ -63,7 +63,7 @@ parks_digest =
       entries = 33;
     }
 
--- the same network with room for two tokens in the right branch from the start
+-- the network with capacity two in the right branch from the start
 abbrev pub roomy : Network
 roomy = resized parks (λ c. if c == 2 then 2 else 1)
 

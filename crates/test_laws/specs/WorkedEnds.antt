@@ -30,7 +30,7 @@ counter_into_sink_digest =
 abbrev pub CounterIntoSink : Type 0
 CounterIntoSink = HasDigest standard counter_into_sink counter_into_sink_digest
 
--- the sink wants one token more than comes: it waits, and the run is a deadlock
+-- the sink wants one token more than comes: a deadlock
 abbrev pub sink_waits_for_one_more : Network
 sink_waits_for_one_more =
     network (count 1 3 ∷ sink 4 ∷ [])
@@ -52,7 +52,7 @@ sink_waits_for_one_more_digest =
 abbrev pub SinkWaitsForOneMore : Type 0
 SinkWaitsForOneMore = HasDigest standard sink_waits_for_one_more sink_waits_for_one_more_digest
 
--- the sink stops after two tokens, and the third stays in the channel
+-- the sink stops after two tokens; the third stays in the channel
 abbrev pub sink_stops_early : Network
 sink_stops_early =
     network (count 1 3 ∷ sink 2 ∷ [])
@@ -96,7 +96,7 @@ nothing_to_count_digest =
 abbrev pub NothingToCount : Type 0
 NothingToCount = HasDigest standard nothing_to_count nothing_to_count_digest
 
--- a process that waits for its own output: nothing happens at all
+-- a process that waits for its own output: nothing happens
 abbrev pub dead_from_the_start : Network
 dead_from_the_start =
     network (copy ∷ sink 1 ∷ [])
@@ -118,7 +118,7 @@ dead_from_the_start_digest =
 abbrev pub DeadFromTheStart : Type 0
 DeadFromTheStart = HasDigest standard dead_from_the_start dead_from_the_start_digest
 
--- a process that passes two tokens on to itself, and begins with one in its channel
+-- a process that passes two tokens on to itself, with one start token
 abbrev pub start_tokens : Network
 start_tokens =
     network (take 2 ∷ [])
