@@ -12,7 +12,6 @@ use std::rt::Clock;
 use std::sync::Wait;
 use std::thread::Threads;
 
-/// The first lines of each picture.
 const HEAD: &str = r##"digraph kpn {
   graph [rankdir=LR, nodesep=0.4, ranksep=0.6, labelloc=t, fontname="Helvetica", fontsize=16];
   node [shape=box, style="rounded,filled", fillcolor="#eef3fa", color="#44546a", fontname="Helvetica"];
@@ -86,7 +85,6 @@ pub(crate) fn drawn<R: AllocGlobal + Abort>(rt: &R, worked: &str) -> String {
     format!(in rt.alloc(); "{HEAD}{worked}").expect(rt, "no memory")
 }
 
-/// The counter's network.
 pub(crate) const COUNTER_LINES: &str = r#"  "src" [label="src\ncount 1 3"];
   "snk" [label="snk\nsink 3"];
   "src" -> "snk" [label="c0"];
@@ -99,7 +97,6 @@ fn draws_a_description(rt: HostRuntime) {
     tells(&rt, COUNTER, None, whole.as_str());
 }
 
-/// The loop's network after its run.
 const LOOP_LINES: &str = r##"  label="cycle ad c2 cp c1 (deadlock)";
   "src" [label="src\ncount 1 5\nended", fillcolor="#e3e3e3"];
   "ad" [label="ad\nadd\nwaits to read c1", color="#c0392b", penwidth=2];
@@ -119,7 +116,6 @@ fn draws_a_deadlock_with_its_cycle(rt: HostRuntime) {
     tells(&rt, LOOP, Some(2), whole.as_str());
 }
 
-/// The counter's network after its budget was spent.
 const SPENT_LINES: &str = r#"  label="cut (budget spent)";
   "src" [label="src\ncount 1 3"];
   "snk" [label="snk\nsink 3"];
@@ -189,7 +185,6 @@ fn read_text(alloc: Global, read: &Result<Choice<'_>, WordsFault>) -> Result<Str
     }
 }
 
-/// The number of workers, the direction, the file and the number of files of tokens.
 fn draw_text(alloc: Global, draw: &DrawChoice<'_>) -> Result<String, AllocError> {
     let workers = draw.workers.unwrap_or(0);
     let direction = match draw.direction {
@@ -201,15 +196,15 @@ fn draw_text(alloc: Global, draw: &DrawChoice<'_>) -> Result<String, AllocError>
     format!(in alloc; "{workers} {direction} {file} {count}")
 }
 
-/// The exit status, whether help or the version is asked for, and whether the number of workers is at fault.
 fn refused_text(alloc: Global, fault: &WordsFault) -> Result<String, AllocError> {
     let is_of_workers = matches!(fault, WordsFault::Workers);
     let (status, asks) = (fault.status().code(), fault.asks_for_help());
     format!(in alloc; "{status} {asks} {is_of_workers}")
 }
 
-/// Command lines with what they ask for, as `draw_text` (0 workers if nothing runs) or `refused_text` writes
-/// it.
+/// Command lines with the number of workers (0 if nothing runs), the direction, the file and the number of
+/// files of tokens; or the exit status, whether help or the version is asked for, and whether the number of
+/// workers is at fault.
 static WORDS: [(&str, &str); 19] = [
     ("hox draw", "0 right - 0"),
     ("hox draw a.toml", "0 right a.toml 0"),

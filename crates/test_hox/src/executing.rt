@@ -19,7 +19,6 @@ use std::rt::Clock;
 use std::sync::Wait;
 use std::thread::Threads;
 
-/// Bytes written under a name, or said, or a write that failed.
 #[derive(Drop)]
 struct Done {
     is_said: bool,
@@ -148,7 +147,6 @@ fn status_of(outcome: &Result<Outcome<'_>, Stop<'_>>) -> u8 {
     }
 }
 
-/// Files with a description and two words as tokens.
 fn memory_of<'a, R: AllocGlobal>(rt: &'a R, description: &'a str) -> Memory<'a, R> {
     Memory {
         rt,
@@ -169,7 +167,6 @@ fn does<R: AllocGlobal + Wait + Clock + Threads + Abort + Sync>(
     does_among(rt, memory_of(rt, description), line, status, due);
 }
 
-/// Executes a command line on these files, and compares the exit status and what was done.
 fn does_among<R: AllocGlobal + Wait + Clock + Threads + Abort + Sync>(
     rt: &R,
     mut memory: Memory<'_, R>,

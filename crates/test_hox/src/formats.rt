@@ -218,7 +218,7 @@ fn names_of_files_tell_formats(rt: HostRuntime) {
     );
 }
 
-/// Finds the body of a channel, given by its place and the number of channels, in a file's bytes.
+/// `channel` is a place and the number of channels, `file` the bytes and whether they are the last.
 fn found<R: AllocGlobal + Abort>(
     rt: &R,
     text: &str,
@@ -231,7 +231,6 @@ fn found<R: AllocGlobal + Abort>(
     body_in(rt.alloc(), &format, place, count, bytes, is_last).expect(rt, "no memory")
 }
 
-/// The body of a channel of `STEREO`.
 fn stereo(before: u16, after: u16) -> Body {
     Body {
         layout: Layout::Frames(Frame {
@@ -281,7 +280,6 @@ fn bodies_of_wav_files(rt: HostRuntime) {
     same(&rt, "past", body_of(&STEREO[..43], &left), &[]);
 }
 
-/// The rows of a CSV file from byte `start` on, with this column.
 fn rows(separator: Separator, place: usize, start: usize) -> Result<Option<Body>, HeadFault> {
     Ok(Some(Body {
         layout: Layout::Fields(Column {

@@ -73,7 +73,6 @@ fn stream_as<R: Abort, W>(rt: &R, alloc: Global, channel: &str, written: W) -> S
     }
 }
 
-/// Channels to show, with signed words.
 fn streams_as<R: Abort>(rt: &R, alloc: Global, channels: &[&str]) -> Listed<StreamAs<Decimals>> {
     let mut streams = Vec::new(alloc);
     for channel in channels {
@@ -83,7 +82,6 @@ fn streams_as<R: Abort>(rt: &R, alloc: Global, channels: &[&str]) -> Listed<Stre
     Listed::new(streams)
 }
 
-/// A request without a file of tokens.
 pub(crate) fn plain(alloc: Global, workers: usize) -> Request
     ensures { result.workers ≡ workers }
 {
@@ -106,7 +104,7 @@ fn file_of<R: Abort>(rt: &R, alloc: Global, channel: &str, tokens: &str) -> Toke
     }
 }
 
-/// A request with these tokens for channel x.
+/// Channel x has these tokens.
 pub(crate) fn with_tokens<R: Abort>(rt: &R, alloc: Global, tokens: &str, workers: usize) -> Request
     ensures { result.workers ≡ workers }
 {
@@ -116,7 +114,7 @@ pub(crate) fn with_tokens<R: Abort>(rt: &R, alloc: Global, tokens: &str, workers
     request
 }
 
-/// A request with these tokens for channel x and an output of channel y.
+/// Channel x has these tokens, and channel y is an output.
 fn asked<R: Abort>(rt: &R, alloc: Global, tokens: &str, workers: usize) -> Request
     ensures { result.workers ≡ workers }
 {
@@ -126,7 +124,6 @@ fn asked<R: Abort>(rt: &R, alloc: Global, tokens: &str, workers: usize) -> Reque
     request
 }
 
-/// Runs a description, which must be valid.
 fn told_of<R: AllocGlobal + Wait + Clock + Threads + Abort + Sync, P: Progress>(
     rt: &R,
     text: &str,
@@ -246,7 +243,6 @@ impl Progress for Listener {
     }
 }
 
-/// A request that shows the channel of `LOOP` twice.
 fn shown<R: Abort>(rt: &R, alloc: Global, workers: usize) -> Request
     ensures { result.workers ≡ workers }
 {
@@ -255,8 +251,7 @@ fn shown<R: Abort>(rt: &R, alloc: Global, workers: usize) -> Request
     request
 }
 
-/// Runs `LOOP` until its budget is spent, and compares the report. Returns how often the listener was told
-/// something, and the last number of entries.
+/// Returns how often the listener was told something, and the last number of entries.
 fn is_cut<R: AllocGlobal + Wait + Clock + Threads + Abort + Sync>(
     rt: &R,
     workers: usize,
@@ -283,7 +278,6 @@ fn a_run_that_is_cut_tells_what_it_has(rt: HostRuntime) {
     let _ = is_cut(&rt, 2);
 }
 
-/// Returns the exit status and the fault of a file of tokens.
 fn stop_in(fault: &Fault) -> (u8, Option<PresetFault>) {
     match fault {
         Fault::Tokens(stop) => (fault.status().code(), Some(*stop)),
@@ -340,8 +334,7 @@ fn name_at(names: &[Text], place: usize) -> Option<&str> {
     Some(names.get(place)?.as_str())
 }
 
-/// A request that names a channel that doesn't exist, second among the files of tokens, the channels to show,
-/// or the outputs.
+/// Names an unknown channel second among the files of tokens, the channels to show, or the outputs.
 fn misnamed<R: Abort>(rt: &R, alloc: Global, place: &str) -> Request
     ensures { result.workers ≡ 1 }
 {
@@ -435,7 +428,6 @@ fn an_argument_may_be_negative(rt: HostRuntime) {
     compare_output(&rt, &told, &[low, low, Token::Word(7), Token::Word(100)]);
 }
 
-/// Some start tokens are below 0.
 const HELD: &str = r#"version = 2
 process = [{ name = "src", kind = "input" }, { name = "snk", kind = "drain" }]
 channel = [{ name = "x", from = "src", to = "snk", capacity = 3, tokens = [-1, 5, -9223372036854775808] }]
@@ -474,7 +466,6 @@ fn first_tokens(net: &Net<AllKinds>) -> &[Token] {
     }
 }
 
-/// Two faults, at a process and at a channel.
 const FAULTY: &str = r#"version = 2
 process = [{ name = "src", kind = "input", args = [1] }, { name = "snk", kind = "drain" }]
 channel = [{ name = "x", from = "src", to = "snk", capacity = 0 }]
@@ -533,7 +524,6 @@ fn words_of_streams_and_of_progress_are_read(rt: HostRuntime) {
     same(&rt, "no progress", shows, false);
 }
 
-/// Returns the number of inputs and of outputs, and whether `--quiet` is given.
 fn inputs_and_outputs(alloc: Global, words: &[&str]) -> (usize, usize, bool) {
     stream_in(&read_words(alloc, words))
 }
@@ -567,7 +557,7 @@ fn run_in(read: &Result<Choice<'_>, WordsFault>) -> (usize, Option<u64>) {
     }
 }
 
-/// Returns the exit status of a fault in the arguments, or 9 if they have none.
+/// Returns 9 if the arguments have no fault.
 fn status_of(alloc: Global, words: &[&str]) -> u8 {
     status_in(&read_words(alloc, words))
 }

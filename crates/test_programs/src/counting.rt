@@ -102,7 +102,6 @@ static SHOWN: [Shown; 2] = [
     },
 ];
 
-/// Runs the counter's network, and returns the exit status.
 fn executed<R: Threads + Wait + Clock + Abort + Sync>(
     rt: &R,
     alloc: Global,

@@ -1,8 +1,8 @@
 //! Tests of the program `kpn` and of the examples: `front` of kpn_front and kpn_args, `serving` of
 //! kpn_execute, `counting` of how often bodies are called, `meeting` of bodies that wait for each other,
-//! `refusals` of failing memory and threads during a run, `looking` of a flow's state, and `examples` of
-//! example_own_kinds and example_least_room. They are outside those crates so that these are proved once, and
-//! in one crate so that its dependencies are loaded once.
+//! `refusals` of failing memory and threads, `looking` of a flow's state, and `examples` of example_own_kinds
+//! and example_least_room. In a crate of their own, so that the tested crates are proved once; in one crate,
+//! so that its dependencies are loaded once.
 #![tactic(auto)]
 
 #[cfg(test)]

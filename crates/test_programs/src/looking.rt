@@ -21,7 +21,6 @@ channel = [
 ]
 ";
 
-/// A flow, and its input channels in the order of their places.
 #[derive(Drop)]
 struct Looked {
     flow: Flow<CardBody<Standard>>,
@@ -40,7 +39,6 @@ impl Looked {
     }
 }
 
-/// Returns the flow that scales words by three, at its start.
 fn scaling<R: Abort>(rt: &R, alloc: Global) -> Looked {
     let net = network_of(alloc, SCALE).expect(rt, "a fault");
     let bodies = bodies_of(alloc, &net).expect(rt, "memory");
@@ -52,7 +50,6 @@ fn scaling<R: Abort>(rt: &R, alloc: Global) -> Looked {
     Looked { flow, inputs }
 }
 
-/// Feeds a word into channel 0, which must have room.
 fn feed<R: Abort>(rt: &R, looked: &mut Looked, word: u64) {
     let token = Token::Word(word);
     assert!(rt; looked.flow.may_feed(0, token));

@@ -19,7 +19,7 @@ use std::thread;
 use std::thread::Threads;
 use test_texts::{COUNTER, reports};
 
-/// How often the counter's and the sink's body were called, and how many of the two saw the other's call.
+/// `seen` counts the bodies that saw the other's first call.
 #[derive(Drop)]
 struct Calls {
     counter: AtomicU64,
@@ -27,7 +27,6 @@ struct Calls {
     seen: AtomicU64,
 }
 
-/// A body that waits at its first call until the other was called.
 #[derive(Drop)]
 struct MeetingBody {
     card: Card,

@@ -20,7 +20,6 @@ use test_texts::{COPIED_AND_WOVEN, RUNNING_SUMS, reports};
 /// More bytes than any run here writes.
 const ROOM: usize = 1000;
 
-/// A network that ends in a deadlock, the channel to show, and the report.
 struct Row {
     text: &'static str,
     show: &'static str,
@@ -50,8 +49,7 @@ fn net_or_refused<R: Abort>(rt: &R, alloc: Global, row: &Row) -> Result<Net<Stan
     }
 }
 
-/// Runs a network with two workers, and returns the word for the output. Errors: out of memory for the test
-/// itself.
+/// Errors: out of memory for the test itself.
 fn written<R: Threads + Wait + Clock + Abort + Sync>(
     rt: &R,
     alloc: Global,
@@ -64,7 +62,7 @@ fn written<R: Threads + Wait + Clock + Abort + Sync>(
     Ok(word_of(rt, status, out.as_slice(), row.report))
 }
 
-/// The word for an output with this status; there are only three.
+/// There are only three outputs.
 fn word_of<R: Abort>(rt: &R, status: u8, out: &[u8], report: &str) -> &'static str {
     let all = [
         (5, report, "nothing"),

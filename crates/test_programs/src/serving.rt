@@ -8,7 +8,7 @@ use std::sync::Wait;
 use std::thread::Threads;
 use test_texts::COUNTER;
 
-/// Arguments, a description, the exit status, the number of the fault or 0, and the output.
+/// `fault` is the number of the description's fault, or 0.
 struct Command {
     name: &'static str,
     words: &'static [&'static str],
@@ -69,7 +69,7 @@ static COMMANDS: [Command; 6] = [
     },
 ];
 
-/// Returns the exit status, and the number of the description's fault or 0.
+/// Returns the exit status, and the number of the fault or 0.
 fn served<R: Threads + Wait + Clock + Sync>(
     rt: &R,
     alloc: Global,

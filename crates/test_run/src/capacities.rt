@@ -37,7 +37,7 @@ fn describe<R: Abort>(rt: &R, described: &mut String, text: &str, capacities: &[
     }
 }
 
-/// The report of Parks's case up to its growths; `A` to `D` are the capacities.
+/// Parks's case up to its growths; `A` to `D` are the capacities.
 const WOVEN_LINES: &str = "end deadlock
 process src stopped steps 4
 process cp reads c0 steps 9
@@ -49,7 +49,7 @@ channel c2 put 3 left 0 capacity C
 channel c3 put 6 left 0 capacity D
 ";
 
-/// Returns the expected report of Parks's case: `c2` grows if it starts with capacity one.
+/// `c2` grows if it starts with capacity one.
 fn woven_lines<R: Abort>(rt: &R, alloc: Global, capacities: [usize; 4]) -> String {
     let [c0, c1, c2, c3] = capacities;
     let (grown, rest) = match c2 {
@@ -105,7 +105,7 @@ fn shows_by_one_and_four<R: Threads + Wait + Clock + Abort + Sync>(
     }
 }
 
-/// The report of two counters of three into sinks of nothing, up to the growths.
+/// Two counters of three into sinks of nothing: the report up to the growths.
 const TWO_FULL_LINES: &str = "end terminated
 process a stopped steps 4
 process b stopped steps 4
@@ -115,8 +115,7 @@ channel c0 put 3 left 3 capacity A
 channel c1 put 3 left 3 capacity B
 ";
 
-/// Returns the expected report: each channel grows to capacity three, the smaller first, and the first if
-/// they are equal.
+/// Each channel grows to capacity three, the smaller first, and the first if they are equal.
 fn two_full_lines<R: Abort>(rt: &R, alloc: Global, first: usize, second: usize) -> String {
     let mut lines = String::new(alloc);
     let last = [first.max(3), second.max(3)];
@@ -126,7 +125,6 @@ fn two_full_lines<R: Abort>(rt: &R, alloc: Global, first: usize, second: usize) 
     lines
 }
 
-/// Writes the growths and returns their number.
 fn write_growths<R: Abort>(rt: &R, lines: &mut String, first: usize, second: usize) -> usize {
     let mut growths = 0usize;
     for to in 2..=3usize {

@@ -16,7 +16,6 @@ pub(crate) struct Due {
     pub(crate) end: End,
     pub(crate) entries: u64,
     pub(crate) processes: usize,
-    /// How many processes have stopped.
     pub(crate) stopped: usize,
     /// The whole report, with the stream of channel `show`.
     pub(crate) text: &'static str,
@@ -152,7 +151,6 @@ fn stopped_in(standings: &[Standing]) -> usize {
     stopped
 }
 
-/// Returns the text of a run's report, with the stream of a channel if one is given.
 pub(crate) fn text_of_run<K: Kinds>(
     alloc: Global,
     finish: &Finish<K>,

@@ -53,7 +53,6 @@ static PLACES: [Place; 2] = [Place::Stopped, Place::Stopped];
 
 static STREAM: [Token; 3] = [Token::Word(1), Token::Word(2), Token::Word(3)];
 
-/// What is left in the channel.
 static REST: [Token; 2] = [Token::Word(2), Token::Word(3)];
 
 const TEXT: &str = reports::SINK_OF_ONE_STREAM;
@@ -68,7 +67,7 @@ fn assert_text<R: Abort>(rt: &R, alloc: Global, net: &Net<Standard>, end: End, l
     same(rt, "text", text.as_str(), lines);
 }
 
-/// Returns the report of the history with this end, after comparing its text.
+/// Returns the report, after comparing its text.
 fn report<R: Abort>(rt: &R, alloc: Global, end: End, lines: &str) -> Report {
     let net = network(rt, alloc);
     assert_text(rt, alloc, &net, end, lines);

@@ -33,7 +33,6 @@ static PAIRS: [Row; 4] = [
     },
 ];
 
-/// Their report.
 static PAIR_LINES: [Row; 5] = [
     Row {
         from: 0,

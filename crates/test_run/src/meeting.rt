@@ -19,7 +19,6 @@ use std::thread;
 use std::thread::Threads;
 use test_texts::{COUNTER_INTO_SINK, READY_CHAIN};
 
-/// A network, its number of workers, and the two processes `left` and `right` that wait for each other.
 #[derive(Clone, Copy)]
 struct Meeting {
     text: &'static str,
@@ -32,7 +31,6 @@ struct Meeting {
 /// At which of its calls a closure waits for the other.
 #[derive(Clone, Copy)]
 pub(crate) enum Times {
-    /// At the call of this number.
     Call(u64),
     /// At the first three calls, and at each multiple of ten thousand.
     Rarely,

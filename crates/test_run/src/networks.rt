@@ -8,7 +8,6 @@ use kpn_net::{Check, Net, NetFault, read_sketch};
 use std::alloc::{AllocError, Global};
 use std::process::Abort;
 
-/// A network, and a body for each of its processes in order.
 #[derive(Drop)]
 pub(crate) struct Parts {
     pub(crate) net: Net<Standard>,

@@ -16,7 +16,6 @@ use std::sync::Wait;
 use std::thread::Threads;
 use test_texts::COUNTER;
 
-/// The deeds of a counter to three, and below those of its sink.
 static COUNTS: [Deed; 4] = [
     Deed::Put {
         channel: 0,
@@ -49,7 +48,6 @@ static SINKS: [Deed; 4] = [
     Deed::Stopped,
 ];
 
-/// Returns a process's deeds in order, as recalled from the packed entries.
 fn deeds_of(alloc: Global, kept: &Packed, process: usize) -> Result<Vec<Deed>, AllocError> {
     let mut deeds = Vec::new(alloc);
     for place in 0..kept.count() {

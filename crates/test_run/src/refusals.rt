@@ -46,7 +46,7 @@ impl Refused {
     }
 }
 
-/// Loads a description; if out of memory, retries from its beginning.
+/// If out of memory, retries from the beginning of the description.
 fn load_again<R: Abort>(rt: &R, alloc: Global, text: &str) -> (Net<Standard>, Refused) {
     match load_text(alloc, text) {
         Ok(net) => return (net, Refused::Nothing),
@@ -63,7 +63,7 @@ fn load_text(alloc: Global, text: &str) -> Result<Net<Standard>, NetFault> {
     load(alloc, &mut source)
 }
 
-/// Runs a network; if out of memory, retries with what the error returned.
+/// If out of memory, retries with what the error returned.
 fn finish_again<B: Body, R: Threads + Wait + Clock + Abort + Sync>(
     rt: &R,
     alloc: Global,
@@ -78,7 +78,6 @@ fn finish_again<B: Body, R: Threads + Wait + Clock + Abort + Sync>(
     }
 }
 
-/// Runs a network with what the error returned.
 fn finish_at_last<B: Body, R: Threads + Wait + Clock + Abort + Sync>(
     rt: &R,
     alloc: Global,
@@ -127,7 +126,7 @@ fn stream_again<K: Kinds, R: Abort>(
     (stream, Refused::Stream)
 }
 
-/// Compares a run with a growth out of memory: it ended before it, and its report has no detail.
+/// The run ended before its growth, and its report has no detail.
 fn ends_for_memory<K: Kinds, R: Abort>(
     rt: &R,
     alloc: Global,
@@ -165,7 +164,7 @@ fn first_refused(all: &[Refused]) -> Refused {
     Refused::Nothing
 }
 
-/// Compares the report and a stream of a run that got memory for its growths.
+/// The run got memory for its growths.
 fn tell_again<K: Kinds, R: Abort>(
     rt: &R,
     alloc: Global,
@@ -202,7 +201,7 @@ fn tell_stream<K: Kinds, R: Abort>(
     refused
 }
 
-/// Loads and runs a network, and compares its report and a stream. Errors: out of memory for the test itself.
+/// Errors: out of memory for the test itself.
 fn run_refused<R: Threads + Wait + Clock + Abort + Sync>(
     rt: &R,
     alloc: Global,
@@ -218,7 +217,7 @@ fn run_refused<R: Threads + Wait + Clock + Abort + Sync>(
     told
 }
 
-/// Compares a run; `before` is what failed before it.
+/// `before` is what failed before the end of the run.
 fn tell_refused<K: Kinds, R: Abort>(
     rt: &R,
     alloc: Global,

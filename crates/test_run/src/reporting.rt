@@ -11,10 +11,9 @@ use std::alloc::Global;
 use std::process::Abort;
 use test_texts::COUNTER_INTO_SINK;
 
-/// What went through the channel.
 static TOKENS: [Token; 3] = [Token::Word(1), Token::Word(2), Token::Word(3)];
 
-/// A channel that the network doesn't have has no tokens.
+/// The network doesn't have channel 1.
 fn compare_no_stream<K: Kinds, R: Abort>(rt: &R, alloc: Global, finish: &Finish<K>) {
     let none = stream_of(alloc, finish.net(), finish.history(), 1).expect(rt, "no memory");
     same(rt, "no stream", none.len(), 0);

@@ -30,7 +30,6 @@ impl Gate for Counts {
     }
 }
 
-/// Why a run failed.
 #[derive(Clone, Copy, Debug, PartialEq, Eq)]
 pub(crate) enum Refusal {
     Workers,
@@ -38,7 +37,7 @@ pub(crate) enum Refusal {
     Memory,
 }
 
-/// Returns what a failed run returned; no answer may be lost.
+/// No answer may be lost.
 pub(crate) fn handed_back<B: Body, R: Abort>(
     rt: &R,
     fault: RunFault<B>,
@@ -51,7 +50,6 @@ pub(crate) fn handed_back<B: Body, R: Abort>(
     }
 }
 
-/// Runs a network, which must succeed.
 pub(crate) fn finish_of<B: Body, R: Threads + Wait + Clock + Abort + Sync, G: Gate>(
     rt: &R,
     alloc: Global,
@@ -134,8 +132,8 @@ fn compare_asked<R: Abort>(rt: &R, asked: u64, due: &Due) {
     same(rt, "asked", (asked, is_due), (asked, true));
 }
 
-/// Runs a network with no worker, with 17, and without one of its bodies, which all fails, and then with
-/// `workers` workers and what came back.
+/// The run fails with no worker, with 17, and without one of the bodies. Then it succeeds with what came
+/// back.
 pub(crate) fn run_bodies<B: Body, R: Threads + Wait + Clock + Abort + Sync>(
     rt: &R,
     alloc: Global,

@@ -112,7 +112,6 @@ impl Gate for LateGate {
     }
 }
 
-/// None of the counter's four answers passes before the sink.
 #[test]
 fn a_process_waits_until_the_other_has_passed(rt: HostRuntime) {
     let gate = LateGate {

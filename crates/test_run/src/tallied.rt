@@ -16,7 +16,6 @@ use std::sync::Wait;
 use std::thread::Threads;
 use test_texts::{COPIED_AND_WOVEN, COUNTER, reports};
 
-/// Opens a machine, finishes it, and returns its chronicle.
 fn finished(alloc: Global, parts: Parts) -> Result<Chronicle<Standard, Tallied>, AllocError> {
     let Parts { net, bodies } = parts;
     let opened = Machine::<CardBody<Standard>, Tallied>::open_with_keeper(alloc, net, bodies);
@@ -59,7 +58,6 @@ fn counted_entries_with_a_growth_have_their_report(rt: HostRuntime) {
     shows(&rt, rt.alloc(), COPIED_AND_WOVEN, 3, reports::WOVEN);
 }
 
-/// Returns how many entries a machine with packed entries makes.
 fn entries_of<B: Body>(
     alloc: Global,
     net: Net<B::Kinds>,
@@ -96,7 +94,6 @@ fn say_told(
     sink.push_str(text.as_str())
 }
 
-/// Runs a network with two workers, and appends its report.
 fn tell_by_two<R: Wait + Clock + Threads + Sync>(
     rt: &R,
     alloc: Global,

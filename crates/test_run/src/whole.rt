@@ -18,7 +18,6 @@ use std::thread::Threads;
 pub(crate) struct Whole<'a> {
     /// The report, without a stream.
     pub(crate) text: &'a str,
-    /// Channels with their streams.
     pub(crate) streams: &'a [(usize, &'a [Token])],
 }
 
@@ -63,7 +62,6 @@ static FIRST_TEN: [Token; 10] = [
     Word(12),
 ];
 
-/// Runs the network of Hamming's numbers with one worker, four and sixteen.
 pub(crate) fn shows_endless<R: Threads + Wait + Clock + Abort + Sync>(
     rt: &R,
     alloc: Global,
@@ -86,7 +84,6 @@ fn spends_budget<R: Threads + Wait + Clock + Abort + Sync>(
     drop(finish);
 }
 
-/// The budget of 1,000 is spent, and the report has no detail.
 fn compare_endless<K: Kinds, R: Abort>(rt: &R, alloc: Global, finish: &Finish<K>) {
     let entries = finish.history().len();
     let is_spent = 1000 <= entries && entries <= 1002;

@@ -93,7 +93,6 @@ to = \"k\"
 sort = \"flags\"
 ";
 
-/// The report of its run.
 const FLIP_LINES: &str = "end deadlock
 process k reads c0 steps 0
 channel c0 put 0 left 0 capacity 1

@@ -20,7 +20,6 @@ fn read_text(alloc: Global, read: &Result<Choice<'_>, WordsFault>) -> Result<Str
     }
 }
 
-/// The exit status, and whether the number of workers is at fault.
 fn refused_text(alloc: Global, fault: &WordsFault) -> Result<String, AllocError> {
     let is_of_workers = matches!(fault, WordsFault::Workers);
     format!(in alloc; "{} {is_of_workers}", fault.status().code())
@@ -92,13 +91,11 @@ fn shows_c0_or_is_refused(read: &Result<Choice<'_>, WordsFault>) -> bool {
     }
 }
 
-/// Makes the command line `music play [TUNE]` step by step.
 fn music_command<'a>(alloc: Global) -> Result<Command<'a>, AllocError> {
     let play = with_arg(Ok(Command::new(alloc, "play")), Arg::new(alloc, "tune"));
     with_subcommand(Ok(Command::new(alloc, "music")), play)
 }
 
-/// Returns the subcommand and the tune.
 fn played<'a>(matches: &ArgMatches<'a>) -> Option<(&'a str, Option<&'a str>)> {
     let (name, entries) = matches.subcommand()?;
     Some((name, entries.get_str("tune")))

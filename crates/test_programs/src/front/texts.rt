@@ -65,7 +65,6 @@ impl Kinds for CountAndSink {
     fn lawful() {}
 }
 
-/// A counter of three into a sink of three.
 const COUNTER: &str = "version = 1
 
 [[process]]
@@ -85,13 +84,12 @@ to = \"snk\"
 capacity = 1
 ";
 
-/// Returns the number of a text's fault, or 0 if it has none.
+/// Returns 0 if there is no fault.
 fn number_of(alloc: Global, text: &[u8]) -> u8 {
     let mut source = text;
     number_from(alloc, &mut source)
 }
 
-/// Returns the fault number of a source's text, or 0 if it has none.
 fn number_from<S: Source>(alloc: Global, source: &mut S) -> u8 {
     let net: Result<Net<CountAndSink>, NetFault> = load(alloc, source);
     match net {
@@ -265,14 +263,12 @@ fn finds_the_fault_of_least_number(rt: HostRuntime) {
     }
 }
 
-/// Whole texts with the numbers of their faults.
 static TEXTS: [(&str, u8); 3] = [
     ("", 2),
     ("version = 1\nprocess = []\n", 4),
     ("version = 1\n[[process]]\nname = \"sr", 1),
 ];
 
-/// A text with 1000 open brackets.
 fn open_brackets<R: Abort>(rt: &R, alloc: Global) -> String {
     let brackets = "[".repeat(alloc, 1000).expect(rt, "no memory");
     format!(in alloc; "version = {brackets}").expect(rt, "no memory")
@@ -342,7 +338,7 @@ fn counts_processes_and_channels(rt: HostRuntime) {
     }
 }
 
-/// Returns the counter's text, filled up to `length` bytes with line feeds.
+/// Adds line feeds up to `length` bytes.
 fn filled<R: Abort>(rt: &R, alloc: Global, length: usize) -> String {
     let filling = "\n".repeat(alloc, length.saturating_sub(COUNTER.len()));
     let filling = filling.expect(rt, "no memory");
@@ -417,7 +413,7 @@ impl<'a> Write for Failing<'a> {
     }
 }
 
-/// After how many calls reading the counter's text fails, and the number of the fault.
+/// How many calls succeed before reading the counter's text fails, and the number of the fault.
 static READS: [(usize, u8); 4] = [
     (0, 15),
     (10, 15),
@@ -425,7 +421,7 @@ static READS: [(usize, u8); 4] = [
     (COUNTER.len() + 1, 0),
 ];
 
-/// After how many calls writing the line of a fault fails, and the exit status.
+/// How many calls succeed before writing the line of a fault fails, and the exit status.
 static WRITES: [(usize, u8); 3] = [(0, 7), (10, 7), (11, 4)];
 
 fn compare_read<R: Abort>(rt: &R, alloc: Global, before: usize, fails_once: bool, number: u8) {
@@ -475,7 +471,6 @@ fn statuses_have_numbers(rt: HostRuntime) {
     same(&rt, "codes", codes, [0, 1, 2, 3, 4, 5, 6, 7, 8]);
 }
 
-/// The lines of a checked network, of two faults and of a lost answer.
 const LINES: &str = "ok 2 processes 1 channels\nrefused 14\nrefused 9\nlost\n";
 
 fn compare_lines<R: Abort>(rt: &R, net: &Net<CountAndSink>, out: &mut Vec<u8>) {
@@ -508,7 +503,6 @@ fn answers_refused_memory_by_its_fault(rt: HostRuntime) {
     assert!(rt; number == 0 || number == 14, "{number}");
 }
 
-/// A text with wrong counts comes back with its fault.
 fn compare_refused<R: Abort>(rt: &R, alloc: Global, text: &[u8]) {
     let mut source = text;
     let loaded: Result<Net<CountAndSink>, Refused> = load_or_refuse(alloc, &mut source);

@@ -6,7 +6,6 @@ use kpn_standard::Standard;
 use std::alloc::Global;
 use std::process::Abort;
 
-/// The kinds that messages list.
 const KINDS: &str = "count and sink";
 
 /// Written by hand, with each table's keys in byte order.
@@ -138,7 +137,7 @@ fn what_was_built_is_a_network(rt: HostRuntime) {
     drop(made);
 }
 
-/// Adds a process of this kind, a sink, and a channel between them with the greatest word as start token.
+/// Adds a process of this kind and a sink, with the greatest word between them as start token.
 fn add_held<R: Abort>(rt: &R, made: &mut Builder, kind: &str) {
     made.process("src", kind, &[1, 3]).expect(rt, "memory");
     made.process("snk", "sink", &[3]).expect(rt, "memory");
@@ -158,7 +157,7 @@ fn faults_beside_such_words_are_told(rt: HostRuntime) {
     drop(made);
 }
 
-/// A start token given as a `u64` may be a word that no text can give.
+/// A start token given as a `Word` may have a value that no text can give.
 #[test]
 fn words_by_their_value_are_held(rt: HostRuntime) {
     let mut made = Builder::new(rt.alloc());

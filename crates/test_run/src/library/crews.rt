@@ -17,7 +17,7 @@ use std::sync::atomic::{AtomicU64, Ordering};
 use std::sync::ledger::Ledger;
 use std::thread::Threads;
 
-/// Works with each seat to the end, and counts the seats that met it.
+/// Counts the seats that reach the end.
 #[derive(Drop)]
 struct All<'a, R> {
     rt: &'a R,
@@ -107,7 +107,6 @@ fn shows_leaving<R: Threads + Wait + Clock + Sync + Abort>(rt: &R, alloc: Global
     drop(run);
 }
 
-/// The network comes back, and the crew doesn't work.
 #[test]
 fn a_crew_without_bodies_is_refused(rt: HostRuntime) {
     let alloc = rt.alloc();

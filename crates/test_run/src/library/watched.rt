@@ -21,7 +21,6 @@ use std::sync::atomic::{AtomicBool, AtomicU64, Ordering};
 use std::thread::Threads;
 use std::time::Duration;
 
-/// The report of a counter to three and its sink.
 const COUNTED: &str = "end terminated
 process src stopped steps 4
 process snk stopped steps 4
@@ -70,7 +69,6 @@ impl Observer for Witness {
     }
 }
 
-/// A counter to `numbers` and its sink.
 pub(crate) fn counter<R: Abort>(rt: &R, alloc: Global, numbers: i64) -> Net<Standard> {
     let mut made = Builder::new(alloc);
     made.set_budget(2_000_000);
@@ -157,7 +155,6 @@ fn nothing_runs_if_the_observer_stops_at_once(rt: HostRuntime) {
     drop(net);
 }
 
-/// The observer isn't asked.
 #[test]
 fn seventeen_workers_are_refused(rt: HostRuntime) {
     let witness = Witness::new(0);
@@ -169,7 +166,6 @@ fn seventeen_workers_are_refused(rt: HostRuntime) {
     drop(ran);
 }
 
-/// A body of a standard card with a signature.
 #[derive(Drop)]
 struct Slow {
     card: Card,
@@ -227,13 +223,12 @@ fn push_slow<R: Abort>(rt: &R, bodies: &mut Vec<Slow>, card: Card) {
     }
 }
 
-/// Compares the stream with the beginning of what the counter writes, and returns its length.
 fn begins_as_counted<R: Abort>(rt: &R, alloc: Global, run: &WatchedRun<Standard>) -> u64 {
     let stream = stream_of(alloc, run.net(), run.history(), 0).expect(rt, "memory");
     counted_from_one(rt, stream.as_slice())
 }
 
-/// Returns the number of tokens, which must be the words from 1 on.
+/// The tokens must be the words from 1 on. Returns their number.
 fn counted_from_one<R: Abort>(rt: &R, tokens: &[Token]) -> u64 {
     let mut next = 1u64;
     for token in tokens {
@@ -243,7 +238,6 @@ fn counted_from_one<R: Abort>(rt: &R, tokens: &[Token]) -> u64 {
     next.saturating_sub(1)
 }
 
-/// Stops a run after a hundred entries, long before its end.
 fn shows_stopped<R: Wait + Clock + Threads + Sync + Abort>(rt: &R, alloc: Global, workers: usize) {
     let net = counter(rt, alloc, 500_000);
     let bodies = slow_bodies(rt, alloc, &net);
@@ -285,8 +279,7 @@ fn a_run_is_stopped(rt: HostRuntime) {
     }
 }
 
-/// Runs a counter with its bodies asked in place and an observer that stops after a hundred entries. Returns
-/// whether the run stopped before its end.
+/// Returns whether an observer that stops after a hundred entries stopped the run before its end.
 fn stops_in_place<R: Wait + Clock + Threads + Sync + Abort>(
     rt: &R,
     alloc: Global,

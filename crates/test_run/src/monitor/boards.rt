@@ -23,7 +23,6 @@ fn progress(entries: u32, growths: u32, phase: Phase) -> Progress {
     }
 }
 
-/// Publishes one entry, then three with an end, and looks after each.
 fn looks_between(
     board: &Board,
     publisher: &mut Publisher,
@@ -66,7 +65,6 @@ fn a_look_shows_a_growth(rt: HostRuntime) -> Result<(), Fail> {
     Ok(())
 }
 
-/// Keeps and publishes one entry, then two more with an end, and looks after each.
 fn kept_looks_between<H: Keeper>(
     board: &Board,
     publisher: &mut Publisher,
@@ -104,7 +102,6 @@ fn a_look_shows_kept_entries(rt: HostRuntime) -> Result<(), Fail> {
     Ok(())
 }
 
-/// Returns how many watchers a board allows.
 fn watchers(board: &Board, publisher: &mut Publisher) -> usize
     requires { publisher.old.board ≡ board.now }
 {
@@ -168,7 +165,6 @@ impl Display {
         self.board.look(&mut self.watcher)
     }
 
-    /// Publishes the history with these entries appended, and compares a look.
     fn append<R: Abort>(&mut self, rt: &R, more: &[Entry], ended: Option<End>, due: Progress)
         requires shown { (self.old.publisher.entries ≡ self.old.history.items) × (self.old.publisher.phase ≡ Phase.Running) }
         requires short { length self.old.history.items + length more.now < 100 }

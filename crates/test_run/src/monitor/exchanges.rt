@@ -16,7 +16,7 @@ use std::sync::Wait;
 use std::sync::ledger::Ledger;
 use std::time::Duration;
 
-/// An exchange: the tasks called before it, the entries that their answers appended, and what the hand got.
+/// The tasks called before an exchange, the entries of their answers, and what the hand got.
 #[derive(Clone, Copy, Debug, PartialEq, Eq)]
 struct Round {
     called: usize,
@@ -24,14 +24,12 @@ struct Round {
     next: Next,
 }
 
-/// What a watcher sees of the counter of three at its end.
 pub(crate) static SHOWN: Progress = Progress {
     entries: 8,
     growths: 0,
     phase: Phase::Terminated,
 };
 
-/// Calls all tasks of a hand, and returns their number.
 pub(crate) fn call_all<B: Body, R: Wait>(rt: &R, hand: &mut Hand<B>) -> usize
     ensures { hand.new.called ≡ length hand.new.tasks }
 {

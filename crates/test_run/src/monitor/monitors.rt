@@ -18,7 +18,6 @@ use std::sync::Wait;
 use std::sync::atomic::{AtomicU64, Ordering};
 use std::sync::ledger::Ledger;
 
-/// The result of a closed monitor.
 #[derive(Clone, Copy, Debug, PartialEq, Eq)]
 pub(crate) struct Ended {
     pub(crate) end: Option<End>,
@@ -50,7 +49,6 @@ pub(crate) fn opened<B: Body, R: Abort>(
     machine
 }
 
-/// Puts a machine under a lock.
 pub(crate) fn locked<B: Body, R: Abort>(rt: &R, alloc: Global, machine: Machine<B>) -> Opening<B>
     requires { IsFresh machine }
 {
@@ -92,7 +90,7 @@ pub(crate) fn seen_by<B: Body, E: EntryLedger, O: Ledger>(
     monitor.look(watcher)
 }
 
-/// Takes a task; the run must not have ended.
+/// The run must not have ended.
 pub(crate) fn next_task<B: Body, E: EntryLedger, O: Ledger, R: Wait + Abort>(
     rt: &R,
     monitor: &Monitor<B, E, O>,
@@ -104,7 +102,7 @@ pub(crate) fn next_task<B: Body, E: EntryLedger, O: Ledger, R: Wait + Abort>(
     task
 }
 
-/// Commits an answer that the monitor must accept.
+/// The monitor must accept the answer.
 pub(crate) fn outcome_of<B: Body, E: EntryLedger, O: Ledger, R: Wait + Abort>(
     rt: &R,
     monitor: &Monitor<B, E, O>,
@@ -117,7 +115,7 @@ pub(crate) fn outcome_of<B: Body, E: EntryLedger, O: Ledger, R: Wait + Abort>(
     outcome
 }
 
-/// Commits an answer that the monitor must reject, and returns it.
+/// The monitor must reject the answer, which is returned.
 pub(crate) fn handed_back<B: Body, E: EntryLedger, O: Ledger, R: Wait + Abort>(
     rt: &R,
     monitor: &Monitor<B, E, O>,
@@ -130,7 +128,7 @@ pub(crate) fn handed_back<B: Body, E: EntryLedger, O: Ledger, R: Wait + Abort>(
     finished
 }
 
-/// Works to the end of the run. The monitor must accept all answers and ask the gate `due` times.
+/// The monitor must accept all answers, and ask the gate `due` times.
 pub(crate) fn work_counted<B: Body, E: EntryLedger, O: Ledger, R: Wait + Abort>(
     rt: &R,
     monitor: &Monitor<B, E, O>,
@@ -146,7 +144,7 @@ pub(crate) fn work_counted<B: Body, E: EntryLedger, O: Ledger, R: Wait + Abort>(
     seat
 }
 
-/// Works to the end of the run. The monitor must accept all answers.
+/// The monitor must accept all answers.
 pub(crate) fn work_alone<B: Body, E: EntryLedger, O: Ledger, R: Wait + Abort>(
     rt: &R,
     monitor: &Monitor<B, E, O>,
@@ -168,7 +166,7 @@ pub(crate) fn list_of<E: EntryLedger, O: Ledger, R: Abort, const N: usize>(
     seats
 }
 
-/// Closes a monitor with the seat that has all parts.
+/// The seat must have all parts.
 pub(crate) fn close_alone<B: Body, E: EntryLedger, O: Ledger, R: Abort>(
     rt: &R,
     alloc: Global,
@@ -178,7 +176,7 @@ pub(crate) fn close_alone<B: Body, E: EntryLedger, O: Ledger, R: Abort>(
     close_with(rt, monitor, list_of(rt, alloc, [seat]))
 }
 
-/// Closes a monitor with the seat that has all parts, and returns the result.
+/// The seat must have all parts.
 pub(crate) fn ended_alone<B: Body, E: EntryLedger, O: Ledger, R: Abort>(
     rt: &R,
     alloc: Global,
@@ -191,7 +189,7 @@ pub(crate) fn ended_alone<B: Body, E: EntryLedger, O: Ledger, R: Abort>(
     ended
 }
 
-/// Closes a monitor with the seats that have all parts.
+/// The seats must have all parts.
 pub(crate) fn close_with<B: Body, E: EntryLedger, O: Ledger, R: Abort>(
     rt: &R,
     monitor: Monitor<B, E, O>,
@@ -212,7 +210,6 @@ pub(crate) fn ended_of<K: Kinds, E: EntryLedger>(closed: &Closed<K, E>) -> Ended
     }
 }
 
-/// Returns what a watcher is shown of the whole history.
 pub(crate) fn shown_to<K: Kinds, E: EntryLedger>(
     closed: &mut Closed<K, E>,
     watcher: Watcher,

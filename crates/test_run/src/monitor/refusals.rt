@@ -53,7 +53,7 @@ impl Refused {
     }
 }
 
-/// Opens a machine; if out of memory, retries with what the error returned.
+/// If out of memory, retries with what the error returned.
 fn machine_again<B: Body, R: Abort>(
     rt: &R,
     alloc: Global,
@@ -72,7 +72,6 @@ fn machine_again<B: Body, R: Abort>(
     }
 }
 
-/// Opens a machine with what the error returned.
 fn open_refused_parts<B: Body, R: Abort>(
     rt: &R,
     alloc: Global,
@@ -88,7 +87,7 @@ fn open_refused_parts<B: Body, R: Abort>(
     opened(rt, alloc, net, bodies)
 }
 
-/// Puts a machine under a lock; if out of memory, retries with the machine that the error returned.
+/// If out of memory, retries with the machine that the error returned.
 fn opening_again<B: Body, R: Abort>(
     rt: &R,
     alloc: Global,
@@ -212,7 +211,7 @@ fn open_refused<B: Body, R: Wait + Abort>(
     Ok(first.or(second).or(third))
 }
 
-/// Opens a monitor and works to its end. Returns the word for what failed.
+/// Returns the word for what failed.
 fn monitor_refused<R: Wait + Abort>(rt: &R, alloc: Global, text: &str, due: Shown) -> &'static str {
     let refused = match parts_or_refused(rt, alloc, text) {
         Ok(Parts { net, bodies }) => open_refused(rt, alloc, net, bodies, due),

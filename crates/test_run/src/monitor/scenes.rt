@@ -36,11 +36,10 @@ enum Scene {
     IdleSeat,
     /// One seat commits one answer, or drops its task; the monitor closes without an end.
     OneTask { dropped: bool },
-    /// The greatest number of watchers, of Parks's case.
     MostWatchers,
-    /// One hand is exchanged until a counter of three and its sink have ended.
+    /// One hand is exchanged to the end of a counter of three and its sink.
     Exchanged,
-    /// One seat asks the bodies of the same network in place.
+    /// One seat asks the bodies of a counter of three and its sink in place.
     InPlace,
     /// A waiting thread is woken by one that commits and leaves.
     Woken,
@@ -71,7 +70,6 @@ static WOVEN_ENDED: Ended = Ended {
     processes: 4,
 };
 
-/// A counter of three into a sink of three.
 pub(crate) static COUNTER_ENDED: Ended = Ended {
     end: Some(End::Terminated),
     receipts: 8,
@@ -113,7 +111,7 @@ fn play_opened<
     }
 }
 
-/// Looks a thousand times, and returns whether neither number ever fell.
+/// Returns whether neither number ever fell.
 fn looks<B: Body, E: EntryLedger, O: Ledger>(
     monitor: &Monitor<B, E, O>,
     mut watcher: Watcher,
@@ -131,7 +129,6 @@ fn looks<B: Body, E: EntryLedger, O: Ledger>(
     (rising, watcher)
 }
 
-/// Works with two seats in two threads.
 fn work_in_two<
     B: Body,
     E: EntryLedger + Send + Sync,
@@ -150,7 +147,6 @@ fn work_in_two<
     )
 }
 
-/// Works with two seats while a watcher looks a thousand times.
 fn work_watched<
     B: Body,
     E: EntryLedger + Send + Sync,
@@ -199,7 +195,6 @@ fn watched<
     drop(closed);
 }
 
-/// Closes a monitor with too few seats, which must fail.
 fn not_closed<B: Body, E: EntryLedger, O: Ledger, R: Abort>(
     rt: &R,
     monitor: Monitor<B, E, O>,
@@ -211,7 +206,6 @@ fn not_closed<B: Body, E: EntryLedger, O: Ledger, R: Abort>(
         .expect(rt, "closed without a seat")
 }
 
-/// Commits the counter's first answer.
 fn commits_one<B: Body, E: EntryLedger, O: Ledger, R: Wait + Abort>(
     rt: &R,
     monitor: &Monitor<B, E, O>,
@@ -322,7 +316,6 @@ fn answer_once<B: Body, E: EntryLedger, O: Ledger, R: Wait + Abort>(
     }
 }
 
-/// The run has not ended, and has no entry if the task was dropped.
 fn has_no_end<R: Abort>(rt: &R, ended: Ended, dropped: bool) {
     let receipts = if dropped { 0 } else { ended.receipts };
     let found = (ended.end, ended.entries as u64, ended.receipts);
@@ -351,7 +344,6 @@ fn keep<R: Abort>(rt: &R, watchers: &mut Vec<Watcher>, watcher: Watcher)
     }
 }
 
-/// Looks with each watcher, and moves it to `looked`.
 fn all_look<B: Body, E: EntryLedger, O: Ledger, R: Abort>(
     rt: &R,
     monitor: &Monitor<B, E, O>,
@@ -380,7 +372,6 @@ fn all_settle<K: Kinds, E: EntryLedger, R: Abort>(
     }
 }
 
-/// Makes the greatest number of watchers, each of which looks once.
 fn looking_watchers<B: Body, E: EntryLedger, O: Ledger, R: Wait + Abort>(
     rt: &R,
     alloc: Global,

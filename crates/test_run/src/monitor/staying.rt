@@ -16,8 +16,8 @@ use std::sync::Wait;
 use std::sync::ledger::Ledger;
 use test_texts::{COUNTER_INTO_SINK, READY_CHAIN};
 
-/// An exchange by a hand of at most three tasks: the most tasks it asks for, the processes called before it,
-/// their outcomes, and what the hand got.
+/// An exchange by a hand of at most three tasks: the most it asks for, the processes called before it, their
+/// outcomes, and what the hand got.
 #[derive(Clone, Copy)]
 struct Round {
     most: usize,
@@ -149,7 +149,6 @@ static CHAIN_ENDED: Ended = Ended {
     processes: 5,
 };
 
-/// Calls the tasks of a hand, at most three, and returns their processes.
 fn call_three<B: Body, R: Abort>(rt: &R, hand: &mut Hand<B>) -> [Option<usize>; 3]
     ensures { hand.new.called ≡ length hand.new.tasks }
 {
@@ -197,7 +196,6 @@ fn play_rounds<B: Body, E: EntryLedger, O: Ledger, R: Wait + Abort>(
     }
 }
 
-/// Plays these rounds with a new hand.
 fn play_alone<B: Body, E: EntryLedger, O: Ledger, R: Wait + Abort>(
     rt: &R,
     alloc: Global,
@@ -219,7 +217,6 @@ fn counter_plays<B: Body, R: Wait + Abort>(
     counter_opened::<B, Brand, Brand, R>(rt, alloc, opening, rounds)
 }
 
-/// Plays these rounds on the monitor of an opening, and works to the end of the run.
 fn counter_opened<B: Body, E: EntryLedger, O: Ledger, R: Wait + Abort>(
     rt: &R,
     alloc: Global,
@@ -251,7 +248,6 @@ fn two_monitors<B: Body, R: Wait + Abort>(
     refused_between::<B, Brand, Brand, Brand, Brand, R>(rt, alloc, first, second)
 }
 
-/// Returns a hand with all five processes of the chain, called.
 fn full_hand<B: Body, E: EntryLedger, O: Ledger, R: Wait + Abort>(
     rt: &R,
     alloc: Global,
@@ -339,7 +335,6 @@ fn refused_between<B: Body, E: EntryLedger, O: Ledger, F: EntryLedger, P: Ledger
     );
 }
 
-/// Has the third answer of a hand rejected; a second hand continues, and then the first.
 fn refuse_and_go_on<B: Body, E: EntryLedger, O: Ledger, R: Wait + Abort>(
     rt: &R,
     alloc: Global,

@@ -28,7 +28,6 @@ fn two_monitors<B: Body, R: Wait + Abort>(
     stranger_between::<B, Brand, Brand, Brand, Brand, R>(rt, alloc, first, second)
 }
 
-/// Takes both processes, and returns the counter's answer.
 fn counter_answers<B: Body, E: EntryLedger, O: Ledger, R: Wait + Abort>(
     rt: &R,
     monitor: &Monitor<B, E, O>,
@@ -40,7 +39,6 @@ fn counter_answers<B: Body, E: EntryLedger, O: Ledger, R: Wait + Abort>(
     counter.call()
 }
 
-/// Commits an answer whose process isn't out, closes the monitor, and returns the answer.
 fn refuse<B: Body, E: EntryLedger, O: Ledger, R: Wait + Abort>(
     rt: &R,
     alloc: Global,
@@ -80,7 +78,6 @@ static ONE_DONE: Ended = Ended {
     processes: 2,
 };
 
-/// Commits the counter's first answer, which a watcher sees.
 fn commit_first<B: Body, E: EntryLedger, O: Ledger, R: Wait + Abort>(
     rt: &R,
     monitor: &Monitor<B, E, O>,
@@ -152,7 +149,7 @@ fn one_monitor<B: Body, R: Wait + Abort>(
     second_answer::<B, Brand, Brand, R>(rt, alloc, opening, second)
 }
 
-/// Returns the answer of a task of process 0 at its start that no monitor made.
+/// Returns an answer of process 0 at its start that no monitor asked for.
 fn unasked<B: Body>(body: B) -> Finished<B> {
     let card = body.card();
     let start = B::Kinds::start(&card);
@@ -160,8 +157,7 @@ fn unasked<B: Body>(body: B) -> Finished<B> {
     Task::new(0, body, start, None).call()
 }
 
-/// Commits an unasked answer of process 0 at its start, and compares what comes back; a watcher still sees
-/// one entry.
+/// Commits an answer of `unasked`; a watcher still sees one entry.
 fn refuse_again<B: Body, E: EntryLedger, O: Ledger, R: Wait + Abort>(
     rt: &R,
     monitor: &Monitor<B, E, O>,

@@ -15,7 +15,6 @@ use std::sync::ledger::Ledger;
 use std::thread::{Threads, join, sleep, yield_now};
 use std::time::Duration;
 
-/// A counter of one and its sink.
 pub(crate) const ONE_TOKEN: &str = "version = 1
 
 [[process]]
@@ -34,7 +33,6 @@ from = \"src\"
 to = \"snk\"
 ";
 
-/// Each of the two has done its deed and stopped.
 static ONE_ENDED: Ended = Ended {
     end: Some(End::Terminated),
     receipts: 4,

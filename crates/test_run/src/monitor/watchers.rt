@@ -17,7 +17,6 @@ static ENDED: Progress = Progress {
     phase: Phase::Terminated,
 };
 
-/// Looks, publishes one entry with the end, and looks again.
 fn looks(board: &Board, publisher: &mut Publisher, watcher: &mut Watcher) -> (Progress, Progress)
     requires publisher { (publisher.old.board ≡ board.now) × (publisher.old.entries ≡ []) × (publisher.old.phase ≡ Phase.Running) }
     requires watcher { watcher.old.board ≡ board.now }
