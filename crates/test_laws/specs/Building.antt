@@ -7,7 +7,6 @@ use Rattle.kpn_model.specs.declared.parts.Process.{Process}
 use Rattle.kpn_model.specs.declared.parts.Channel.{Channel}
 use Rattle.kpn_model.specs.Network.{Network}
 
--- the process of a kind's number, with two arguments
 abbrev pub process : ℕ → ℕ → ℕ → Process
 process kind x y = record { name = []; card = record { kind = kind; args = x ∷ y ∷ 0 ∷ [] } }
 
@@ -59,7 +58,6 @@ words from to capacity = record { name = []; writer = from.0; out = from.1; read
 abbrev pub flags : ℕ × ℕ → ℕ × ℕ → ℕ → Channel
 flags from to capacity = record (words from to capacity) { sort = Flags }
 
--- the channel with these start tokens
 abbrev pub holding : List Token → Channel → Channel
 holding tokens c = record c { tokens = tokens }
 

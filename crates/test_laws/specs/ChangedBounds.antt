@@ -28,7 +28,6 @@ pub record GrowsGreatest (net : Network) (M : State) (c to : ℕ) (N : State) : 
   pub to_is : to ≡ min (capacity M c + net.step) net.ceiling
   pub leaves : N ≡ with_channel M c (tokens M c) to
 
--- a step with such growths
 abbrev pub GreatestGrows : Network → State → Entry → State → Type 0
 GreatestGrows net M (Did p d) N = Does standard net M p d N
 GreatestGrows net M (Grew c to) N = GrowsGreatest net M c to N

@@ -15,7 +15,6 @@ use Rattle.test_laws.specs.WorkedFunctions.{Gives}
 abbrev pub CountsUpTo : Type 0
 CountsUpTo = (from n : ℕ) (others : List ℕ) → Gives Count (from ∷ n ∷ others) [] (words (range_with_len from (n + 1 - from)) ∷ [])
 
--- take: one more
 abbrev pub TakesOneMore : Type 0
 TakesOneMore = (n : ℕ) (others xs : List ℕ) → Gives Take (n ∷ others) (words xs ∷ []) (words (take (n + 1) xs) ∷ [])
 
@@ -28,11 +27,9 @@ every_other (x ∷ y ∷ xs) = x ∷ every_other xs
 abbrev pub CopiesInTurn : Type 0
 CopiesInTurn = (others xs : List ℕ) → Gives Copy others (words xs ∷ []) (words (every_other xs) ∷ words (every_other (drop 1 xs)) ∷ [])
 
--- prefix: without its word
 abbrev pub ForgetsItsWord : Type 0
 ForgetsItsWord = (v : ℕ) (others xs : List ℕ) → Gives Prefix (v ∷ others) (words xs ∷ []) (words xs ∷ [])
 
--- add: sums of more than 64 bits
 abbrev pub SumsDoNotWrap : Type 0
 SumsDoNotWrap = (others xs ys : List ℕ) → Gives Add others (words xs ∷ words ys ∷ []) (words (map (λ p. p.0 + p.1) (zip xs ys)) ∷ [])
 
@@ -65,11 +62,9 @@ drained (x ∷ xs) ys = drained_with x xs (drained xs) ys
 abbrev pub MergeDrains : Type 0
 MergeDrains = (others xs ys : List ℕ) → Gives Merge others (words xs ∷ words ys ∷ []) (words (drained xs ys) ∷ [])
 
--- divides: whether the word divides m
 abbrev pub DividesOtherWay : Type 0
 DividesOtherWay = (m : ℕ) (others xs : List ℕ) → Gives Divides (m ∷ others) (words xs ∷ []) (flags (map (λ x. m % x == 0) xs) ∷ [])
 
--- switch: to the other output
 abbrev pub SwitchesOtherWay : Type 0
 SwitchesOtherWay =
     (others xs : List ℕ) (fs : List Bool) → Gives Switch others (words xs ∷ flags fs ∷ []) (words (flagged fs xs) ∷ words (flagged (map not fs) xs) ∷ [])
@@ -88,7 +83,6 @@ FiltersKeepNothing =
     (start : Card → List ℕ) (step : Card → List ℕ → ℕ → List ℕ × ℕ) (card : Card) (ws : List ℕ)
     → Writes (filter_family start step) card (words ws ∷ []) (words (map (λ w. (step card (start card) w).1) ws) ∷ [])
 
--- turns of no word
 abbrev pub TurnsOfNone : Type 0
 TurnsOfNone = (a b : ℕ) → TakesTurns a b (woven a b)
 

@@ -42,7 +42,6 @@ pub record GrowsEarly (net : Network) (M : State) (c to : ℕ) (N : State) : Typ
   pub to_is : to ≡ min (capacity M c + net.step) net.ceiling
   pub leaves : N ≡ with_channel M c (tokens M c) to
 
--- a step with such growths
 abbrev pub EarlyGrowth : Network → State → Entry → State → Type 0
 EarlyGrowth net M (Did p d) N = Does standard net M p d N
 EarlyGrowth net M (Grew c to) N = GrowsEarly net M c to N
@@ -52,14 +51,12 @@ abbrev pub IsDeedAnyway : Network → State → ℕ → Act → Deed → Type 0
 IsDeedAnyway net M p (Write k w) (Put c t) = (out_of net p k ≡ Some c) × (t ≡ w)
 IsDeedAnyway net M p a d = IsDeed standard net M p a d
 
--- p does what it wants, with or without room
 pub record DoesAnyway (net : Network) (M : State) (p : ℕ) (d : Deed) (N : State) : Type 0 where
   pub answer : Answer
   pub wanted : wants standard net M p ≡ Some answer
   pub is_deed : IsDeedAnyway net M p answer.act d
   pub leaves : N ≡ after_deed standard net M p answer.next d
 
--- a step with such deeds
 abbrev pub PutIntoFull : Network → State → Entry → State → Type 0
 PutIntoFull net M (Did p d) N = DoesAnyway net M p d N
 PutIntoFull net M (Grew c to) N = Grows standard net M c to N
@@ -74,7 +71,6 @@ pub record GrowsAnyLeast (net : Network) (M : State) (c to : ℕ) (N : State) : 
   pub to_is : to ≡ min (capacity M c + net.step) net.ceiling
   pub leaves : N ≡ with_channel M c (tokens M c) to
 
--- a step with such growths
 abbrev pub AnyOfEqual : Network → State → Entry → State → Type 0
 AnyOfEqual net M (Did p d) N = Does standard net M p d N
 AnyOfEqual net M (Grew c to) N = GrowsAnyLeast net M c to N

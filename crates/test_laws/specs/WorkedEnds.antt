@@ -8,7 +8,7 @@ use Rattle.kpn_standard.specs.Standard.{standard}
 use Rattle.kpn_laws.specs.Digested.{HasDigest}
 use Rattle.test_laws.specs.Building.{count, sink, take, copy, words, holding, numbers, network}
 
--- a counter of three into a sink of three: both stop, and nothing is left
+-- both stop, and nothing is left
 abbrev pub counter_into_sink : Network
 counter_into_sink =
     network (count 1 3 ∷ sink 3 ∷ [])
@@ -74,7 +74,7 @@ sink_stops_early_digest =
 abbrev pub SinkStopsEarly : Type 0
 SinkStopsEarly = HasDigest standard sink_stops_early sink_stops_early_digest
 
--- a counter of none into a sink of none: both stop at once
+-- both stop at once
 abbrev pub nothing_to_count : Network
 nothing_to_count =
     network (count 5 0 ∷ sink 0 ∷ [])
@@ -96,7 +96,7 @@ nothing_to_count_digest =
 abbrev pub NothingToCount : Type 0
 NothingToCount = HasDigest standard nothing_to_count nothing_to_count_digest
 
--- a process that waits for its own output: nothing happens
+-- a process waits for its own output: nothing happens
 abbrev pub dead_from_the_start : Network
 dead_from_the_start =
     network (copy ∷ sink 1 ∷ [])

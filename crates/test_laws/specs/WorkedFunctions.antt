@@ -12,7 +12,6 @@ use Rattle.kpn_streams.specs.Fed.{Writes}
 use Rattle.kpn_streams.specs.Functions.{words, flags, woven}
 use Rattle.kpn_streams.specs.Joined.{TakesTurns, IsRisingUnion}
 
--- a process of this kind with these arguments, fed with `ins`, writes `outs`
 abbrev pub Gives : Kind → List ℕ → List (List Token) → List (List Token) → Type 0
 Gives kind args ins outs = Writes standard (card_of_kind kind args) ins outs
 

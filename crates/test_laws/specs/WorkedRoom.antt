@@ -10,7 +10,6 @@ use Rattle.kpn_standard.specs.Standard.{standard}
 use Rattle.kpn_laws.specs.Sufficient.{EndsWithin, LastsWithin}
 use Rattle.test_laws.specs.Building.{count, sink, copy, scale, weave, words, holding, numbers, network}
 
--- a process and a channel with a name, as in a description
 abbrev pub process_named : List ℕ → Process → Process
 process_named name p = record p { name = name }
 
@@ -25,7 +24,6 @@ longer_parks_case =
     (process_named (codes "src") (count 1 5) ∷ process_named (codes "cp") copy ∷ process_named (codes "wv") (weave 3 3) ∷ process_named (codes "snk") (sink 8) ∷ [])
     (with_name (codes "c0") (words (0, 0) (1, 0) 1) ∷ with_name (codes "c1") (words (1, 0) (2, 0) 1) ∷ with_name (codes "c2") (words (1, 1) (2, 1) 1) ∷ with_name (codes "c3") (words (2, 0) (3, 0) 1) ∷ [])
 
--- capacity two suffices, in a run of 46 entries
 abbrev pub TwoPlacesSuffice : Type 0
 TwoPlacesSuffice = (s : EndsWithin standard longer_parks_case 2) × (length s.history ≡ 46)
 

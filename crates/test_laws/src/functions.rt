@@ -40,8 +40,8 @@ impl Filters for Totals {
 }
 
 /// Ghost lemma: what a process of each standard kind writes, and a filter that keeps a total, fed with given
-/// words and flags. `turns` and `union` meet the premises of two laws. The proof uses only what
-/// `standard_functions` and `filter_function_of` ensure.
+/// words and flags. `turns` and `union` meet the premises of two laws. The proof uses only
+/// `standard_functions` and `filter_function_of`.
 pub fn worked_functions()
     ensures count { CountsFourFromThree }
     ensures sink { SinksAll }

@@ -26,9 +26,9 @@ pub fn standard_kinds_are_lawful()
     typed_runs::<Standard>();
 }
 
-/// Ghost lemma: Parks's case meets the premises of the laws. It is valid; all its runs that are over have one
-/// digest, with a growth at an artificial deadlock, and there is such a run. With capacity two in the right
-/// branch there is one too, with the same deeds and no growth (Parks 1995).
+/// Ghost lemma: Parks's case meets the premises of the laws. It is valid; its runs that are over have one
+/// digest, with a growth, and there is such a run. With capacity two in the right branch they have the same
+/// deeds and no growth (Parks 1995).
 pub fn parks_case_meets_the_premises()
     ensures valid { IsValid signature parks }
     ensures digest { HasDigest standard parks parks_digest }
