@@ -1,4 +1,4 @@
-//! Worked pictures, and worked command lines that ask for them.
+//! Worked pictures, and command lines that ask for them.
 ghost use Rattle.std.specs.Prelude.{◌≤◌, IfSome};
 
 use crate::checks::same;
@@ -12,7 +12,6 @@ use std::rt::Clock;
 use std::sync::Wait;
 use std::thread::Threads;
 
-/// The lines above all processes, in each picture.
 const HEAD: &str = r##"digraph kpn {
   graph [rankdir=LR, nodesep=0.4, ranksep=0.6, labelloc=t, fontname="Helvetica", fontsize=16];
   node [shape=box, style="rounded,filled", fillcolor="#eef3fa", color="#44546a", fontname="Helvetica"];
@@ -41,8 +40,7 @@ channel = [
 ]
 "#;
 
-/// The picture of a description of a network, to the right: of the network, or of its run. Of one that is
-/// refused, the exit status and the number of its fault.
+/// Returns the picture of a network, or of its run, to the right; or the line of its fault.
 fn told<R: AllocGlobal + Wait + Clock + Threads + Abort + Sync>(
     rt: &R,
     text: &str,
@@ -60,7 +58,7 @@ fn told<R: AllocGlobal + Wait + Clock + Threads + Abort + Sync>(
     }
 }
 
-/// The exit status and the number of the fault of a description, in a line.
+/// The exit status and the number of a description's fault.
 fn refusal<R: AllocGlobal + Abort>(rt: &R, fault: &Fault) -> String {
     let number = match fault {
         Fault::Description(refused) => refused.fault.number(),
@@ -70,7 +68,6 @@ fn refusal<R: AllocGlobal + Abort>(rt: &R, fault: &Fault) -> String {
     format!(in rt.alloc(); "{status} {number}").expect(rt, "no memory")
 }
 
-/// Compares what is drawn of a description without a file of tokens.
 fn tells<R: AllocGlobal + Wait + Clock + Threads + Abort + Sync>(
     rt: &R,
     text: &str,
@@ -84,12 +81,10 @@ fn tells<R: AllocGlobal + Wait + Clock + Threads + Abort + Sync>(
     same(rt, text, told.as_str(), due);
 }
 
-/// The whole picture with these lines.
 pub(crate) fn drawn<R: AllocGlobal + Abort>(rt: &R, worked: &str) -> String {
     format!(in rt.alloc(); "{HEAD}{worked}").expect(rt, "no memory")
 }
 
-/// The counter's network.
 pub(crate) const COUNTER_LINES: &str = r#"  "src" [label="src\ncount 1 3"];
   "snk" [label="snk\nsink 3"];
   "src" -> "snk" [label="c0"];
@@ -102,7 +97,6 @@ fn draws_a_description(rt: HostRuntime) {
     tells(&rt, COUNTER, None, whole.as_str());
 }
 
-/// The loop's network after its run.
 const LOOP_LINES: &str = r##"  label="cycle ad c2 cp c1 (deadlock)";
   "src" [label="src\ncount 1 5\nended", fillcolor="#e3e3e3"];
   "ad" [label="ad\nadd\nwaits to read c1", color="#c0392b", penwidth=2];
@@ -115,7 +109,6 @@ const LOOP_LINES: &str = r##"  label="cycle ad c2 cp c1 (deadlock)";
 }
 "##;
 
-/// The picture is the same by one worker and by two.
 #[test]
 fn draws_a_deadlock_with_its_cycle(rt: HostRuntime) {
     let whole = drawn(&rt, LOOP_LINES);
@@ -123,7 +116,6 @@ fn draws_a_deadlock_with_its_cycle(rt: HostRuntime) {
     tells(&rt, LOOP, Some(2), whole.as_str());
 }
 
-/// The counter's network after a run whose budget was spent.
 const SPENT_LINES: &str = r#"  label="cut (budget spent)";
   "src" [label="src\ncount 1 3"];
   "snk" [label="snk\nsink 3"];
@@ -131,13 +123,12 @@ const SPENT_LINES: &str = r#"  label="cut (budget spent)";
 }
 "#;
 
-/// The counter's text with a budget of three.
 fn counter_of_three_entries<R: AllocGlobal + Abort>(rt: &R) -> String {
     let text = COUNTER.replace(rt.alloc(), "budget = 100", "budget = 3");
     text.expect(rt, "no memory")
 }
 
-/// If the budget is spent, only the end is drawn: three of eight entries are allowed.
+/// The budget allows three of eight entries; only the end is drawn.
 #[test]
 fn draws_a_spent_budget(rt: HostRuntime) {
     let text = counter_of_three_entries(&rt);
@@ -145,7 +136,7 @@ fn draws_a_spent_budget(rt: HostRuntime) {
     tells(&rt, text.as_str(), Some(1), whole.as_str());
 }
 
-/// Texts that are refused, and what is told of them.
+/// Wrong texts, each with its exit status and the number of its fault.
 static REFUSED: [(&str, &str); 3] = [
     ("version", "2 1"),
     ("version = 1", "2 2"),
@@ -160,7 +151,7 @@ fn refuses_as_the_other_programs_do(rt: HostRuntime) {
     }
 }
 
-/// Two words of a file wait in a channel; the first goes through.
+/// A sink reads the first of two words of a file; the other is left.
 const SAMPLES: &str = r#"version = 1
 process = [{ name = "src", kind = "input" }, { name = "snk", kind = "sink", args = [1] }]
 channel = [{ name = "x", from = "src", to = "snk" }]
@@ -181,13 +172,11 @@ fn draws_what_a_file_says(rt: HostRuntime) {
     same(&rt, "samples", told.as_str(), whole.as_str());
 }
 
-/// What the arguments ask for, as a text.
 fn asked_for<R: Abort>(rt: &R, alloc: Global, words: &[&str]) -> String {
     let read = read_words(alloc, words);
     read_text(alloc, &read).expect(rt, "no memory")
 }
 
-/// What was read of the arguments, as a text.
 fn read_text(alloc: Global, read: &Result<Choice<'_>, WordsFault>) -> Result<String, AllocError> {
     match read {
         Ok(Choice::Draw(draw)) => draw_text(alloc, draw),
@@ -196,7 +185,6 @@ fn read_text(alloc: Global, read: &Result<Choice<'_>, WordsFault>) -> Result<Str
     }
 }
 
-/// The number of workers, the direction, the file and how many files of tokens there are.
 fn draw_text(alloc: Global, draw: &DrawChoice<'_>) -> Result<String, AllocError> {
     let workers = draw.workers.unwrap_or(0);
     let direction = match draw.direction {
@@ -208,17 +196,15 @@ fn draw_text(alloc: Global, draw: &DrawChoice<'_>) -> Result<String, AllocError>
     format!(in alloc; "{workers} {direction} {file} {count}")
 }
 
-/// The exit status, whether help or the version is asked for, and whether it is because of the number of
-/// workers.
 fn refused_text(alloc: Global, fault: &WordsFault) -> Result<String, AllocError> {
     let is_of_workers = matches!(fault, WordsFault::Workers);
     let (status, asks) = (fault.status().code(), fault.asks_for_help());
     format!(in alloc; "{status} {asks} {is_of_workers}")
 }
 
-/// Command lines, and what they ask for: the number of workers of a run (0 if nothing is run), the
-/// direction, a file and the number of files of tokens; or nothing, with the exit status, whether help or the
-/// version is asked for, and whether it is because of the number of workers.
+/// Command lines with the number of workers (0 if nothing runs), the direction, the file and the number of
+/// files of tokens; or the exit status, whether help or the version is asked for, and whether the number of
+/// workers is at fault.
 static WORDS: [(&str, &str); 19] = [
     ("hox draw", "0 right - 0"),
     ("hox draw a.toml", "0 right a.toml 0"),
@@ -244,7 +230,6 @@ static WORDS: [(&str, &str); 19] = [
     ("hox walk", "1 false false"),
 ];
 
-/// Compares what a command line asks for.
 fn compare_words<R: Abort>(rt: &R, alloc: Global, line: &str, answer: &str) {
     let words: Vec<&str> = line.split(' ').collect(alloc).expect(rt, "no memory");
     let found = asked_for(rt, alloc, words.as_slice());

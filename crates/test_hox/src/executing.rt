@@ -1,4 +1,4 @@
-//! Worked command lines of hox between files in memory: what is written, in order, and the exit status.
+//! Worked command lines of hox on files in memory: what is written, in order, and the exit status.
 ghost use Rattle.std.specs.Prelude.{◌≡◌, ◌++◌, ◌∷◌, []};
 
 use crate::checks::same;
@@ -19,7 +19,6 @@ use std::rt::Clock;
 use std::sync::Wait;
 use std::thread::Threads;
 
-/// Bytes that were written under a name, or said; or that were to be, which failed.
 #[derive(Drop)]
 struct Done {
     is_said: bool,
@@ -28,8 +27,8 @@ struct Done {
     bytes: Listed<u8>,
 }
 
-/// A file of tokens, t, and a description under every other name but none, which can't be opened; and what was done.
-/// Nothing can be written under `full`, nor to standard output if `is_full`.
+/// A file system with a file of tokens, `t`, and a description under every other name but `none`, which
+/// doesn't open. It records what is done. Writing to `full` fails, and to standard output if `is_full`.
 #[derive(Drop)]
 struct Memory<'a, R> {
     rt: &'a R,
@@ -40,7 +39,6 @@ struct Memory<'a, R> {
 }
 
 impl<'a, R: AllocGlobal + Abort> Memory<'a, R> {
-    /// Notes what was done, or has failed.
     fn note(&mut self, is_said: bool, has_failed: bool, name: &str, bytes: &[u8])
         ensures { self.new.done.items ≡ self.old.done.items ++ record { is_said = is_said; has_failed = has_failed; name = name.now; bytes = bytes.now } ∷ [] }
     {
@@ -111,8 +109,8 @@ impl<'a, R: AllocGlobal + Abort> FileSystem for Memory<'a, R> {
     }
 }
 
-/// What was done, as a text: after `> NAME` what was written under it, and after `!` what was said; and `x NAME` where
-/// nothing could be.
+/// Returns what was done as a text: `> NAME` before what was written, `!` before what was said, and `x NAME`
+/// for a failed write.
 fn trace_of(alloc: Global, done: &[Done]) -> Result<String, AllocError> {
     let mut trace = String::new(alloc);
     for done in done {
@@ -132,7 +130,6 @@ fn trace_of(alloc: Global, done: &[Done]) -> Result<String, AllocError> {
     Ok(trace)
 }
 
-/// Appends bytes of a text.
 fn push_bytes(trace: &mut String, bytes: &[u8]) -> Result<(), AllocError> {
     match std::str::from_utf8(bytes) {
         Ok(text) => trace.push_str(text),
@@ -140,7 +137,7 @@ fn push_bytes(trace: &mut String, bytes: &[u8]) -> Result<(), AllocError> {
     }
 }
 
-/// The exit status, or 9 if a stream is to be run.
+/// Returns the exit status, or 9 if a stream is to run.
 fn status_of(outcome: &Result<Outcome<'_>, Stop<'_>>) -> u8 {
     match outcome {
         Ok(Outcome::Exits(status)) => status.code(),
@@ -150,7 +147,6 @@ fn status_of(outcome: &Result<Outcome<'_>, Stop<'_>>) -> u8 {
     }
 }
 
-/// A file of two words, and a description.
 fn memory_of<'a, R: AllocGlobal>(rt: &'a R, description: &'a str) -> Memory<'a, R> {
     Memory {
         rt,
@@ -161,7 +157,6 @@ fn memory_of<'a, R: AllocGlobal>(rt: &'a R, description: &'a str) -> Memory<'a, 
     }
 }
 
-/// Does what a command line asks for, and compares the exit status and what was done.
 fn does<R: AllocGlobal + Wait + Clock + Threads + Abort + Sync>(
     rt: &R,
     description: &str,
@@ -172,7 +167,6 @@ fn does<R: AllocGlobal + Wait + Clock + Threads + Abort + Sync>(
     does_among(rt, memory_of(rt, description), line, status, due);
 }
 
-/// Does what a command line asks for, with these files, and compares the exit status and what was done.
 fn does_among<R: AllocGlobal + Wait + Clock + Threads + Abort + Sync>(
     rt: &R,
     mut memory: Memory<'_, R>,
@@ -188,7 +182,7 @@ fn does_among<R: AllocGlobal + Wait + Clock + Threads + Abort + Sync>(
     same(rt, line, trace.as_str(), due);
 }
 
-/// Command lines on a network through which two words go, with the exit status and what is done.
+/// Command lines on `COPY`, with the exit status and what is done.
 static ROWS: [(&str, u8, &str); 23] = [
     (
         "hox check d --tokens x=t",
@@ -254,7 +248,7 @@ fn does_what_a_command_line_asks_for(rt: HostRuntime) {
     }
 }
 
-/// The streams are written also where the report could not be.
+/// The streams are written although the report can't be.
 #[test]
 fn writes_streams_where_standard_output_is_full(rt: HostRuntime) {
     let mut memory = memory_of(&rt, COPY);
@@ -294,8 +288,9 @@ fn writes_words_with_signs_or_without(rt: HostRuntime) {
     }
 }
 
-/// Command lines on a table of two rows, with the exit status and what is done: a column of it goes through, into a table
-/// of its own, or as samples of one byte; and none does where a format is unknown or of no use, or does not fit the file.
+/// Command lines on a table of two rows, with the exit status and what is done. A column goes through, into
+/// another table or as samples of one byte. Nothing does if a format is unknown, unused or doesn't fit the
+/// file.
 static FORMATS: [(&str, u8, &str); 9] = [
     (
         "hox run d --tokens x=t --quiet --out y=o --format x=csv,column=temp,delimiter=semicolon --format y=csv,header",
@@ -340,8 +335,7 @@ fn writes_a_picture(rt: HostRuntime) {
     does(&rt, COUNTER, "hox draw d", 0, due.as_str());
 }
 
-/// What is written to the one output of a stream from the file of two words to an output of these texts, the files as
-/// this text says; or why it is not run.
+/// Returns what a stream of the two words writes to its one output, or why it doesn't run.
 fn streamed<R: AllocGlobal + Abort>(
     rt: &R,
     input: &'static str,
@@ -367,7 +361,6 @@ fn streamed<R: AllocGlobal + Abort>(
     written.expect(rt, "no text")
 }
 
-/// Why a stream is not run, in a word.
 fn why(stop: &StreamStop<'_>) -> &'static str {
     match stop {
         StreamStop::Asked(Stop::Clash { .. }) => "clash",
@@ -403,8 +396,8 @@ fn streams_from_file_to_file(rt: HostRuntime) {
     }
 }
 
-/// Command lines that run the copy between a file of 1 and 16 and one file for both channels; the exit status, and what
-/// is written.
+/// Command lines that copy 1 and 16 and write both channels to one file, with the exit status and what is
+/// done.
 const BESIDE: [(&str, u8, &str); 5] = [
     (
         "hox run d --tokens x=t --quiet --out x,y=o --format all=csv",
@@ -456,7 +449,6 @@ fn one_file_is_given_for_several_channels(rt: HostRuntime) {
     }
 }
 
-/// The channel of a pair, its file, its place, how many there are, and whether it is alone.
 fn parts_of<'a>(pair: &Pair<'a>) -> (&'a str, &'a str, usize, usize, bool) {
     (
         pair.channel,
@@ -467,7 +459,6 @@ fn parts_of<'a>(pair: &Pair<'a>) -> (&'a str, &'a str, usize, usize, bool) {
     )
 }
 
-/// Channels and files that texts name, and how many of them are standard input.
 #[test]
 fn pairs_name_channels_and_files(rt: HostRuntime) {
     let formats = Formats {

@@ -1,4 +1,4 @@
-//! How files have tokens, as it is named; and what stands in them before the tokens.
+//! Names of file formats, and what files contain before the tokens.
 use crate::checks::same;
 use hox_format::{
     BeginFault, Body, Csv, Format, FormatFault, Head, HeadFault, Raw, Shared, Wav, Which,
@@ -31,7 +31,7 @@ const SAMPLES: Raw = Raw {
     channels: None,
 };
 
-/// Two channels in 16 bits, 48,000 samples a second, with 1, -1 and 100, -100, and another chunk after them.
+/// WAV with two channels of 16 bits at 48,000 samples a second, 1, -1 and 100, -100, and another chunk.
 const STEREO: &[u8] =
     b"RIFF\x38\x00\x00\x00WAVEfmt \x10\x00\x00\x00\x01\x00\x02\x00\x80\xbb\x00\x00\x00\xee\x02\x00\x04\x00\x10\x00data\x08\x00\x00\x00\x01\x00\xff\xffd\x00\x9c\xffid3 \x04\x00\x00\x00abcd";
 
@@ -109,7 +109,6 @@ fn formats_are_named(rt: HostRuntime) {
     }
 }
 
-/// Samples of 16 bits, of so many channels.
 fn some_channels(channels: u16) -> Format<'static> {
     Format::Raw(Raw {
         channels: Some(channels),
@@ -219,7 +218,7 @@ fn names_of_files_tell_formats(rt: HostRuntime) {
     );
 }
 
-/// What is found for the channel at a place, of so many, in the bytes of a file.
+/// `channel` is a place and the number of channels, `file` the bytes and whether they are the last.
 fn found<R: AllocGlobal + Abort>(
     rt: &R,
     text: &str,
@@ -232,7 +231,6 @@ fn found<R: AllocGlobal + Abort>(
     body_in(rt.alloc(), &format, place, count, bytes, is_last).expect(rt, "no memory")
 }
 
-/// The body of a channel of the file of two channels.
 fn stereo(before: u16, after: u16) -> Body {
     Body {
         layout: Layout::Frames(Frame {
@@ -282,7 +280,6 @@ fn bodies_of_wav_files(rt: HostRuntime) {
     same(&rt, "past", body_of(&STEREO[..43], &left), &[]);
 }
 
-/// The rows of a CSV file from a byte on, with this column.
 fn rows(separator: Separator, place: usize, start: usize) -> Result<Option<Body>, HeadFault> {
     Ok(Some(Body {
         layout: Layout::Fields(Column {
@@ -338,7 +335,6 @@ fn bodies_of_csv_files(rt: HostRuntime) {
     same(&rt, "long", found_long, Err(HeadFault::TooLong));
 }
 
-/// The frames of a file of samples.
 fn frames(before: u16, after: u16) -> Result<Option<Body>, HeadFault> {
     let frame = Frame {
         before,
@@ -397,7 +393,7 @@ fn bodies_of_samples(rt: HostRuntime) {
     );
 }
 
-/// What stands before the tokens of the channels a and b;c, and after three bytes of them.
+/// Returns what is written before the tokens of channels `a` and `b;c`, and after three bytes of them.
 fn around<R: AllocGlobal + Abort>(rt: &R, text: &str, frames: Option<u32>) -> Vec<u8> {
     let format = format_of(text).expect(rt, "a format");
     let mut out = Vec::new(rt.alloc());
@@ -468,7 +464,7 @@ fn a_channel_alone_has_a_layout(rt: HostRuntime) {
     }
 }
 
-/// What channels have in common in a file of a format, and how many of them; none if it is for one alone.
+/// What a number of channels share in a file of a format, or none if it is for one channel.
 #[test]
 fn channels_share_a_file(rt: HostRuntime) {
     let table = Table::Rows(Separator::Comma);

@@ -1,6 +1,7 @@
-//! Tests of the program `hox`: in `formats` of hox_format, in `samples` of hox_network, hox_run and hox_args, in
-//! `drawing` of hox_draw and hox_args, and in `executing` of hox_files and hox_execute. They have a crate of their own so
-//! that what it uses is loaded once, and not that of test_programs, whose crates are proved long before.
+//! Tests of the program `hox`: `formats` of hox_format, `samples` of hox_network, hox_run and hox_args,
+//! `drawing` of hox_draw and hox_args, and `executing` of hox_files and hox_execute. They are one crate so
+//! that its dependencies are loaded once, and not in test_programs, whose dependencies are proved long
+//! before.
 #![tactic(auto)]
 
 #[cfg(test)]

@@ -48,7 +48,7 @@ stream x 5 6 7
 verdict ran dry
 ";
 
-/// One process, which goes on for ever: it is cut after three entries, a put, a take and a put.
+/// One process that runs for ever; its budget allows a put, a take and a put.
 const LOOP: &str = r#"version = 1
 budget = 3
 process = [{ name = "p", kind = "prefix", args = [7] }]
@@ -66,7 +66,6 @@ fn text_of<R: Abort>(rt: &R, alloc: Global, text: &str) -> Text {
     Text::new(String::from_str(alloc, text).expect(rt, "no memory"))
 }
 
-/// A channel whose stream is wanted, and how its tokens are written.
 fn stream_as<R: Abort, W>(rt: &R, alloc: Global, channel: &str, written: W) -> StreamAs<W> {
     StreamAs {
         channel: text_of(rt, alloc, channel),
@@ -74,7 +73,6 @@ fn stream_as<R: Abort, W>(rt: &R, alloc: Global, channel: &str, written: W) -> S
     }
 }
 
-/// Channels whose streams are wanted, with signs where they are due.
 fn streams_as<R: Abort>(rt: &R, alloc: Global, channels: &[&str]) -> Listed<StreamAs<Decimals>> {
     let mut streams = Vec::new(alloc);
     for channel in channels {
@@ -84,7 +82,6 @@ fn streams_as<R: Abort>(rt: &R, alloc: Global, channels: &[&str]) -> Listed<Stre
     Listed::new(streams)
 }
 
-/// What is asked for without a file of tokens.
 pub(crate) fn plain(alloc: Global, workers: usize) -> Request
     ensures { result.workers ≡ workers }
 {
@@ -97,7 +94,6 @@ pub(crate) fn plain(alloc: Global, workers: usize) -> Request
     }
 }
 
-/// A file of tokens for a channel.
 fn file_of<R: Abort>(rt: &R, alloc: Global, channel: &str, tokens: &str) -> TokenFile {
     let bytes = Vec::from_slice(alloc, tokens.as_bytes()).expect(rt, "no memory");
     TokenFile {
@@ -108,7 +104,7 @@ fn file_of<R: Abort>(rt: &R, alloc: Global, channel: &str, tokens: &str) -> Toke
     }
 }
 
-/// What is asked for: channel x has these tokens.
+/// Channel x has these tokens.
 pub(crate) fn with_tokens<R: Abort>(rt: &R, alloc: Global, tokens: &str, workers: usize) -> Request
     ensures { result.workers ≡ workers }
 {
@@ -118,7 +114,7 @@ pub(crate) fn with_tokens<R: Abort>(rt: &R, alloc: Global, tokens: &str, workers
     request
 }
 
-/// What is asked for: channel x has these tokens, and channel y is wanted.
+/// Channel x has these tokens, and channel y is an output.
 fn asked<R: Abort>(rt: &R, alloc: Global, tokens: &str, workers: usize) -> Request
     ensures { result.workers ≡ workers }
 {
@@ -128,7 +124,6 @@ fn asked<R: Abort>(rt: &R, alloc: Global, tokens: &str, workers: usize) -> Reque
     request
 }
 
-/// What is told of the run of a description, which may not be refused.
 fn told_of<R: AllocGlobal + Wait + Clock + Threads + Abort + Sync, P: Progress>(
     rt: &R,
     text: &str,
@@ -145,19 +140,16 @@ fn told_of<R: AllocGlobal + Wait + Clock + Threads + Abort + Sync, P: Progress>(
     told
 }
 
-/// Compares the exit status and the report.
 fn compare_report<R: Abort>(rt: &R, told: &Told, status: u8, lines: &str) {
     same(rt, "status", told.status.code(), status);
     same(rt, "report", told.report.as_str(), lines);
 }
 
-/// Compares the first output.
 fn compare_output<R: Abort>(rt: &R, told: &Told, tokens: &[Token]) {
     let y = told.outputs.as_slice().first().expect(rt, "no output");
     same(rt, "y", y.tokens.as_slice(), tokens);
 }
 
-/// Runs the network by so many workers, and compares what is told.
 fn tells<R: AllocGlobal + Wait + Clock + Threads + Abort + Sync>(rt: &R, workers: usize)
     requires { (1 ≤ workers) × (workers ≤ 16) }
 {
@@ -181,8 +173,8 @@ fn the_streams_of_two_channels_are_shown(rt: HostRuntime) {
     compare_report(&rt, &told, 0, SHOWN_LINES);
 }
 
-/// What is noted of the sources of a run: of the first, its channel, its tokens and how many were not read; how many
-/// there are; and the budget that was spent.
+/// Returns the first source's channel, its tokens and how many weren't read; the number of sources; and the
+/// budget if it was spent.
 fn noted(notes: &Notes) -> (Option<(&str, usize, usize)>, usize, Option<u64>) {
     let first = match notes.sources.first() {
         Some(source) => Some((source.channel.as_str(), source.tokens, source.unread)),
@@ -229,7 +221,7 @@ fn words_below_0_are_read_and_written(rt: HostRuntime) {
     same(&rt, "shown", has_line, true);
 }
 
-/// Counts how often it is told how far a run has come, and keeps the entries that it was told last.
+/// Counts the calls of `tell`, and keeps the last number of entries.
 #[derive(Drop)]
 struct Listener {
     told: AtomicU64,
@@ -251,7 +243,6 @@ impl Progress for Listener {
     }
 }
 
-/// What is asked for of the process that goes on for ever: its channel is shown twice.
 fn shown<R: Abort>(rt: &R, alloc: Global, workers: usize) -> Request
     ensures { result.workers ≡ workers }
 {
@@ -260,8 +251,7 @@ fn shown<R: Abort>(rt: &R, alloc: Global, workers: usize) -> Request
     request
 }
 
-/// Runs the process that goes on for ever by so many workers until it is cut, and compares what is told. Returns
-/// how often the listener was told something, and how many entries at last.
+/// Returns how often the listener was told something, and the last number of entries.
 fn is_cut<R: AllocGlobal + Wait + Clock + Threads + Abort + Sync>(
     rt: &R,
     workers: usize,
@@ -288,7 +278,6 @@ fn a_run_that_is_cut_tells_what_it_has(rt: HostRuntime) {
     let _ = is_cut(&rt, 2);
 }
 
-/// The exit status for a fault of a file of tokens, and the fault.
 fn stop_in(fault: &Fault) -> (u8, Option<PresetFault>) {
     match fault {
         Fault::Tokens(stop) => (fault.status().code(), Some(*stop)),
@@ -335,20 +324,17 @@ fn a_network_is_run_by_two(rt: HostRuntime) {
     same(&rt, "status", told.status.code(), 0);
 }
 
-/// Compares these names with those of the two channels.
 fn are_x_and_y<R: Abort>(rt: &R, row: &str, names: &[Text]) {
     same(rt, row, names.len(), 2);
     same(rt, row, name_at(names, 0), Some("x"));
     same(rt, row, name_at(names, 1), Some("y"));
 }
 
-/// One of some names, if there are so many.
 fn name_at(names: &[Text], place: usize) -> Option<&str> {
     Some(names.get(place)?.as_str())
 }
 
-/// What is asked for where a name stands that no channel has: second among the files of tokens, the channels to
-/// show, or the outputs.
+/// Names an unknown channel second among the files of tokens, the channels to show, or the outputs.
 fn misnamed<R: Abort>(rt: &R, alloc: Global, place: &str) -> Request
     ensures { result.workers ≡ 1 }
 {
@@ -367,7 +353,7 @@ fn misnamed<R: Abort>(rt: &R, alloc: Global, place: &str) -> Request
     request
 }
 
-/// The number in a fault of a name that no channel has, and the names that the channels have.
+/// Returns the place of the unknown name, and the names of the channels.
 fn names_in(fault: &Fault) -> (usize, &[Text]) {
     match fault {
         Fault::NoHolder(file, names) => (*file, names.as_slice()),
@@ -387,7 +373,6 @@ fn a_name_that_no_channel_has_is_told_with_those_that_they_have(rt: HostRuntime)
     }
 }
 
-/// The fault where a name stands that no channel has.
 fn fault_of<R: AllocGlobal + Wait + Clock + Threads + Abort + Sync>(rt: &R, place: &str) -> Fault {
     let request = misnamed(rt, rt.alloc(), place);
     let mut source = COPY.as_bytes();
@@ -398,7 +383,7 @@ fn fault_of<R: AllocGlobal + Wait + Clock + Threads + Abort + Sync>(rt: &R, plac
     fault
 }
 
-/// A channel of flags, of which nothing says so but its ports.
+/// A channel of flags, as only its ports show.
 const BARE: &str = r#"version = 1
 process = [{ name = "src", kind = "input_flags" }, { name = "snk", kind = "drain_flags" }]
 channel = [{ name = "f", from = "src", to = "snk" }]
@@ -419,7 +404,6 @@ fn a_channel_has_the_sort_of_its_ports(rt: HostRuntime) {
     same(&rt, "sort in the network", sort_of(&net), Some(Sort::Flags));
 }
 
-/// The sort of the first channel.
 fn sort_of(net: &Net<AllKinds>) -> Option<Sort> {
     if net.channels() > 0 {
         Some(net.sort(0))
@@ -428,13 +412,13 @@ fn sort_of(net: &Net<AllKinds>) -> Option<Sort> {
     }
 }
 
-/// Words of a file within -100 and 100.
+/// Clips words of a file to -100 and 100.
 const WITHIN: &str = r#"version = 1
 process = [{ name = "src", kind = "input" }, { name = "p", kind = "clip", args = [-100, 100] }, { name = "snk", kind = "drain" }]
 channel = [{ name = "x", from = "src", to = "p" }, { name = "y", from = "p", to = "snk" }]
 "#;
 
-/// The words of -150, -100, 7 and 101, and those of -100, -100, 7 and 100.
+/// The words of -150, -100, 7 and 101 become those of -100, -100, 7 and 100.
 #[test]
 fn an_argument_may_be_negative(rt: HostRuntime) {
     let words = "18446744073709551466\n18446744073709551516\n7\n101\n";
@@ -444,7 +428,6 @@ fn an_argument_may_be_negative(rt: HostRuntime) {
     compare_output(&rt, &told, &[low, low, Token::Word(7), Token::Word(100)]);
 }
 
-/// Start tokens of which some are below 0.
 const HELD: &str = r#"version = 2
 process = [{ name = "src", kind = "input" }, { name = "snk", kind = "drain" }]
 channel = [{ name = "x", from = "src", to = "snk", capacity = 3, tokens = [-1, 5, -9223372036854775808] }]
@@ -475,7 +458,6 @@ fn a_start_token_may_be_negative(rt: HostRuntime) {
     same(&rt, "held", first_tokens(&net), held.as_slice());
 }
 
-/// What the first channel holds at first.
 fn first_tokens(net: &Net<AllKinds>) -> &[Token] {
     if net.channels() > 0 {
         net.tokens(0)
@@ -484,13 +466,11 @@ fn first_tokens(net: &Net<AllKinds>) -> &[Token] {
     }
 }
 
-/// Two faults, at a process and at a channel.
 const FAULTY: &str = r#"version = 2
 process = [{ name = "src", kind = "input", args = [1] }, { name = "snk", kind = "drain" }]
 channel = [{ name = "x", from = "src", to = "snk", capacity = 0 }]
 "#;
 
-/// Appends a message as a line.
 fn say_of<R: Abort>(rt: &R, said: &mut String, message: &str) {
     if said.push_str(message).is_err() || said.push_str("\n").is_err() {
         panic!(rt; "no memory");
@@ -544,7 +524,6 @@ fn words_of_streams_and_of_progress_are_read(rt: HostRuntime) {
     same(&rt, "no progress", shows, false);
 }
 
-/// How many inputs and outputs the arguments ask for, and whether no report is wanted.
 fn inputs_and_outputs(alloc: Global, words: &[&str]) -> (usize, usize, bool) {
     stream_in(&read_words(alloc, words))
 }
@@ -556,7 +535,6 @@ fn stream_in(read: &Result<Choice<'_>, WordsFault>) -> (usize, usize, bool) {
     }
 }
 
-/// Whether the arguments ask for progress.
 fn shows_progress(alloc: Global, words: &[&str]) -> bool {
     progress_in(&read_words(alloc, words))
 }
@@ -568,7 +546,6 @@ fn progress_in(read: &Result<Choice<'_>, WordsFault>) -> bool {
     }
 }
 
-/// How many outputs the arguments ask for, and which budget.
 fn outputs_and_budget(alloc: Global, words: &[&str]) -> (usize, Option<u64>) {
     run_in(&read_words(alloc, words))
 }
@@ -580,7 +557,7 @@ fn run_in(read: &Result<Choice<'_>, WordsFault>) -> (usize, Option<u64>) {
     }
 }
 
-/// The exit status for arguments that are refused.
+/// Returns 9 if the arguments have no fault.
 fn status_of(alloc: Global, words: &[&str]) -> u8 {
     status_in(&read_words(alloc, words))
 }

@@ -1,4 +1,4 @@
--- Networks of the standard kinds, written briefly. No run speaks of names, so these have none.
+-- Short ways to write networks of the standard kinds. They have no names, since runs don't depend on them.
 use Rattle.std.specs.Prelude.{ℕ, List, [], ◌∷◌, map}
 use Rattle.kpn_model.specs.declared.token.Token.{Token}
 use Rattle.kpn_model.specs.declared.token.Token.TheVariants.{Word}
@@ -7,7 +7,6 @@ use Rattle.kpn_model.specs.declared.parts.Process.{Process}
 use Rattle.kpn_model.specs.declared.parts.Channel.{Channel}
 use Rattle.kpn_model.specs.Network.{Network}
 
--- a process of the kind of this number, with two arguments
 abbrev pub process : ℕ → ℕ → ℕ → Process
 process kind x y = record { name = []; card = record { kind = kind; args = x ∷ y ∷ 0 ∷ [] } }
 
@@ -23,7 +22,7 @@ sink n = process 1 n 0
 abbrev pub take : ℕ → Process
 take n = process 2 n 0
 
--- writes each token to both its outputs
+-- writes each token to both outputs
 abbrev pub copy : Process
 copy = process 3 0 0
 
@@ -35,7 +34,7 @@ add = process 5 0 0
 abbrev pub scale : ℕ → Process
 scale k = process 6 k 0
 
--- passes a tokens of its first input on, then b of its second, and again
+-- passes on a tokens of its first input, then b of its second, in turn
 abbrev pub weave : ℕ → ℕ → Process
 weave a b = process 7 a b
 
@@ -51,22 +50,20 @@ divides m = process 9 m 0
 abbrev pub switch : Process
 switch = process 10 0 0
 
--- an empty channel of words with this capacity, from an output to an input, each given by a process and its port
+-- an empty channel of words from an output to an input, each a process and its port
 abbrev pub words : ℕ × ℕ → ℕ × ℕ → ℕ → Channel
 words from to capacity = record { name = []; writer = from.0; out = from.1; reader = to.0; input = to.1; sort = Words; capacity = capacity; tokens = [] }
 
--- the same for flags
+-- an empty channel of flags
 abbrev pub flags : ℕ × ℕ → ℕ × ℕ → ℕ → Channel
 flags from to capacity = record (words from to capacity) { sort = Flags }
 
--- the channel with these start tokens
 abbrev pub holding : List Token → Channel → Channel
 holding tokens c = record c { tokens = tokens }
 
--- these numbers as tokens
 abbrev pub numbers : List ℕ → List Token
 numbers ns = map (λ n. Word n) ns
 
--- a network whose channels grow by one, up to 65,535, with a budget of 10,000
+-- a network with a budget of 10,000; its channels grow by one, up to 65,535
 abbrev pub network : List Process → List Channel → Network
 network processes channels = record { processes = processes; channels = channels; budget = 10000; step = 1; ceiling = 65535 }

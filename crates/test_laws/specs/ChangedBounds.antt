@@ -1,4 +1,4 @@
--- The bound of the least room changed in four ways. Each is stated for networks of the standard kinds, and is false.
+-- Four false variants of the bound of the least room, for networks of the standard kinds.
 use Rattle.std.specs.Prelude.{min, ◌≡◌, ◌⊎◌, ℕ, ◌+◌, ◌<◌, ◌≤◌, List}
 use Rattle.kpn_model.specs.declared.history.Entry.{Entry}
 use Rattle.kpn_model.specs.declared.history.Entry.TheVariants.{Did, Grew}
@@ -11,13 +11,13 @@ use Rattle.kpn_standard.specs.Standard.{standard}
 use Rattle.kpn_laws.specs.Sufficient.{Suffices}
 use Rattle.test_laws.specs.ChangedRules.{RunBy}
 
--- if capacity b suffices, each growth by this rule is from less
+-- if capacity b suffices, the rule grows only channels with a capacity below b
 abbrev pub GrowsBelowBy : (Network → State → Entry → State → Type 0) → Type 0
 GrowsBelowBy rule =
     (net : Network) (b : ℕ) → Suffices standard net b → (E : List Entry) (M N : State) (c to : ℕ)
     → RunBy (rule net) (start standard net) E M → rule net M (Grew c to) N → capacity M c < b
 
--- of the channels with a blocked writer the one of greatest capacity grows; among equals that of least number
+-- the channel of greatest capacity with a blocked writer grows; among equals the one with the lowest number
 pub record GrowsGreatest (net : Network) (M : State) (c to : ℕ) (N : State) : Type 0 where
   pub artificial : IsArtificial standard net M
   pub writer : ℕ
@@ -28,18 +28,18 @@ pub record GrowsGreatest (net : Network) (M : State) (c to : ℕ) (N : State) : 
   pub to_is : to ≡ min (capacity M c + net.step) net.ceiling
   pub leaves : N ≡ with_channel M c (tokens M c) to
 
--- a step with such growths
 abbrev pub GreatestGrows : Network → State → Entry → State → Type 0
 GreatestGrows net M (Did p d) N = Does standard net M p d N
 GreatestGrows net M (Grew c to) N = GrowsGreatest net M c to N
 
--- if some capacities suffice, the chosen channel of an artificial deadlock has less capacity than among them
+-- if a run from other capacities ends naturally, the chosen channel of an artificial deadlock has less
+-- capacity than at its end
 abbrev pub EachBelowItsOwn : Type 0
 EachBelowItsOwn =
     (net : Network) (sizes : ℕ → ℕ) (F : List Entry) (N : State) (a : End) → IsFinal standard (resized net sizes) F N a → IsNatural a
     → (E : List Entry) (M : State) (c : ℕ) → IsRun standard net E M → IsArtificial standard net M → IsChosen standard net M c → capacity M c < capacity N c
 
--- if capacity b suffices, each channel has its starting capacity, or at most b, whatever the step
+-- if capacity b suffices, each channel has its starting capacity or at most b, whatever the step
 abbrev pub StaysUpTo : Type 0
 StaysUpTo =
     (net : Network) (b : ℕ) → Suffices standard net b → (E : List Entry) (M : State) → IsRun standard net E M

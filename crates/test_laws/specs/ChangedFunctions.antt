@@ -1,5 +1,5 @@
--- Functions that the standard kinds might be thought to have: that a kind writes by one is false. And laws of weave's and of merge's
--- functions without a premise that they need.
+-- False claims about what the standard kinds write, and laws of weave and merge without a premise that they
+-- need.
 use Rattle.std.specs.Prelude.{◌⊎◌, ℕ, ◌+◌, ◌-◌, ◌%◌, ◌==◌, nat_lt, if◌then◌else◌, Bool, not, List, [], ◌∷◌, ◌++◌, map, zip, take, drop, Contains}
 use Rattle.std.specs.List.{range_with_len}
 use Rattle.std.specs.List.Sorted.{IsStrictlyIncreasing}
@@ -11,15 +11,14 @@ use Rattle.kpn_streams.specs.Functions.{words, flags, woven, merged, flagged}
 use Rattle.kpn_streams.specs.Joined.{TakesTurns}
 use Rattle.test_laws.specs.WorkedFunctions.{Gives}
 
--- count: the numbers up to n, in place of n numbers
+-- count: the numbers up to n, not n numbers
 abbrev pub CountsUpTo : Type 0
 CountsUpTo = (from n : ℕ) (others : List ℕ) → Gives Count (from ∷ n ∷ others) [] (words (range_with_len from (n + 1 - from)) ∷ [])
 
--- take: one more
 abbrev pub TakesOneMore : Type 0
 TakesOneMore = (n : ℕ) (others xs : List ℕ) → Gives Take (n ∷ others) (words xs ∷ []) (words (take (n + 1) xs) ∷ [])
 
--- copy: to its outputs in turn, in place of to both
+-- copy: to its outputs in turn, not to both
 abbrev pub every_other : List ℕ → List ℕ
 every_other [] = []
 every_other (x ∷ []) = x ∷ []
@@ -28,15 +27,13 @@ every_other (x ∷ y ∷ xs) = x ∷ every_other xs
 abbrev pub CopiesInTurn : Type 0
 CopiesInTurn = (others xs : List ℕ) → Gives Copy others (words xs ∷ []) (words (every_other xs) ∷ words (every_other (drop 1 xs)) ∷ [])
 
--- prefix: without its word
 abbrev pub ForgetsItsWord : Type 0
 ForgetsItsWord = (v : ℕ) (others xs : List ℕ) → Gives Prefix (v ∷ others) (words xs ∷ []) (words xs ∷ [])
 
--- add: sums of more than 64 bits
 abbrev pub SumsDoNotWrap : Type 0
 SumsDoNotWrap = (others xs ys : List ℕ) → Gives Add others (words xs ∷ words ys ∷ []) (words (map (λ p. p.0 + p.1) (zip xs ys)) ∷ [])
 
--- weave: one turn of the first stream, and then the second for ever
+-- weave: one turn of the first stream, then the second for ever
 abbrev pub StopsTakingTurns : Type 0
 StopsTakingTurns = (a b : ℕ) (others xs ys : List ℕ) → Gives Weave (a ∷ b ∷ others) (words xs ∷ words ys ∷ []) (words (take a xs ++ ys) ∷ [])
 
@@ -52,7 +49,7 @@ both_kept (x ∷ xs) ys = both_kept_with x (both_kept xs) ys
 abbrev pub MergeKeepsBoth : Type 0
 MergeKeepsBoth = (others xs ys : List ℕ) → Gives Merge others (words xs ∷ words ys ∷ []) (words (both_kept xs ys) ∷ [])
 
--- merge: and where one stream has ended the rest of the other, in place of waiting
+-- merge: the rest of one stream where the other has ended, instead of waiting
 abbrev pub drained_with : ℕ → List ℕ → (List ℕ → List ℕ) → List ℕ → List ℕ
 drained_with x xs rest [] = x ∷ xs
 drained_with x xs rest (y ∷ ys) =
@@ -65,16 +62,14 @@ drained (x ∷ xs) ys = drained_with x xs (drained xs) ys
 abbrev pub MergeDrains : Type 0
 MergeDrains = (others xs ys : List ℕ) → Gives Merge others (words xs ∷ words ys ∷ []) (words (drained xs ys) ∷ [])
 
--- divides: whether the word divides m
 abbrev pub DividesOtherWay : Type 0
 DividesOtherWay = (m : ℕ) (others xs : List ℕ) → Gives Divides (m ∷ others) (words xs ∷ []) (flags (map (λ x. m % x == 0) xs) ∷ [])
 
--- switch: to the other output
 abbrev pub SwitchesOtherWay : Type 0
 SwitchesOtherWay =
     (others xs : List ℕ) (fs : List Bool) → Gives Switch others (words xs ∷ flags fs ∷ []) (words (flagged fs xs) ∷ words (flagged (map not fs) xs) ∷ [])
 
--- select: a word of each stream for each flag, of which one is written
+-- select: takes a word of each stream for each flag, and writes one
 abbrev pub picked : List Bool → List ℕ → List ℕ → List ℕ
 picked (f ∷ fs) (x ∷ xs) (y ∷ ys) = (if f then y else x) ∷ picked fs xs ys
 picked fs xs ys = []
@@ -82,17 +77,16 @@ picked fs xs ys = []
 abbrev pub SelectReadsBoth : Type 0
 SelectReadsBoth = (others xs ys : List ℕ) (fs : List Bool) → Gives Select others (words xs ∷ words ys ∷ flags fs ∷ []) (words (picked fs xs ys) ∷ [])
 
--- filters: each word by what is kept at the start
+-- filters: each word with the local state of the start
 abbrev pub FiltersKeepNothing : Type 0
 FiltersKeepNothing =
     (start : Card → List ℕ) (step : Card → List ℕ → ℕ → List ℕ × ℕ) (card : Card) (ws : List ℕ)
     → Writes (filter_family start step) card (words ws ∷ []) (words (map (λ w. (step card (start card) w).1) ws) ∷ [])
 
--- turns of no word
 abbrev pub TurnsOfNone : Type 0
 TurnsOfNone = (a b : ℕ) → TakesTurns a b (woven a b)
 
--- all numbers of two rising streams, in place of those to which both come
+-- all numbers of two rising streams, not only those before one ends
 abbrev pub MergeHasAll : Type 0
 MergeHasAll =
     (xs ys : List ℕ) → IsStrictlyIncreasing xs → IsStrictlyIncreasing ys → (z : ℕ) → Contains xs z ⊎ Contains ys z → Contains (merged xs ys) z

@@ -1,4 +1,4 @@
--- Laws of solving a network's equations, changed. Each is stated for networks of the standard kinds, and is false.
+-- False laws of solving a network's equations, for networks of the standard kinds.
 use Rattle.std.specs.Prelude.{ℕ, suc, ◌≡◌, ◌<◌, ◌≤◌, List, [], length}
 use Rattle.kpn_model.specs.declared.token.Token.{Token}
 use Rattle.kpn_model.specs.Network.{Network}
@@ -7,11 +7,11 @@ use Rattle.kpn_laws.specs.Alone.{Streams}
 use Rattle.kpn_laws.specs.Equations.{IsLeastSolution}
 use Rattle.kpn_streams.specs.Solving.{HasEquation, Solves, IsLimitOf, HasStreams}
 
--- also where there is a loop, tokens that solve the equations are what the network computes
+-- even with a loop, the network computes any tokens that solve the equations
 abbrev pub AllSolvedAreComputed : Type 0
 AllSolvedAreComputed = (net : Network) (X : ℕ → List Token) → Solves standard net X → HasStreams standard net X
 
--- approximations that begin with whatever tokens have the least solution for their limit
+-- approximations from any tokens have the least solution as their limit
 abbrev pub LimitFromAnyIsLeast : Type 0
 LimitFromAnyIsLeast =
     (net : Network) (A : ℕ → ℕ → List Token) (T : Streams) → ((n c : ℕ) → c < length net.channels → HasEquation standard net (A n) c (A (suc n) c))

@@ -9,7 +9,7 @@ use Rattle.kpn_standard.specs.Standard.{standard}
 use Rattle.kpn_laws.specs.Digested.{HasDigest}
 use Rattle.test_laws.specs.Building.{count, sink, copy, add, scale, merge, divides, switch, words, flags, holding, numbers, network}
 
--- twice 9,223,372,036,854,775,807, and two more: sums and products are taken modulo 2^64
+-- twice 9,223,372,036,854,775,807, and two more: sums and products wrap modulo 2^64
 abbrev pub products_wrap : Network
 products_wrap =
     network (count 9223372036854775807 1 ∷ scale 2 ∷ count 2 1 ∷ add ∷ sink 1 ∷ [])
@@ -31,7 +31,7 @@ products_wrap_digest =
 abbrev pub ProductsWrap : Type 0
 ProductsWrap = HasDigest standard products_wrap products_wrap_digest
 
--- a switch sends the odd numbers one way and the even ones the other, as a channel of flags says
+-- a switch sends odd numbers one way and even ones the other, as flags say
 abbrev pub switched_by_flags : Network
 switched_by_flags =
     network (count 1 6 ∷ copy ∷ divides 2 ∷ switch ∷ sink 3 ∷ sink 3 ∷ [])
@@ -53,7 +53,7 @@ switched_by_flags_digest =
 abbrev pub SwitchedByFlags : Type 0
 SwitchedByFlags = HasDigest standard switched_by_flags switched_by_flags_digest
 
--- each sum is fed back through a channel that begins with 0: the sums of 1, 2, 3 so far
+-- running sums of 1, 2, 3: each sum comes back through a channel that begins with 0
 abbrev pub running_sums : Network
 running_sums =
     network (count 1 3 ∷ add ∷ copy ∷ sink 3 ∷ [])
@@ -75,7 +75,7 @@ running_sums_digest =
 abbrev pub RunningSums : Type 0
 RunningSums = HasDigest standard running_sums running_sums_digest
 
--- two rising streams are merged into one, equal numbers once
+-- two rising streams merge into one, with equal numbers once
 abbrev pub merged_in_order : Network
 merged_in_order =
     network (count 1 3 ∷ count 2 2 ∷ merge ∷ sink 3 ∷ [])

@@ -8,7 +8,7 @@ use Rattle.kpn_standard.specs.Standard.{standard}
 use Rattle.kpn_laws.specs.Digested.{HasDigest}
 use Rattle.test_laws.specs.Building.{count, sink, copy, weave, words, numbers, network}
 
--- the sink stops after one token: the channel grows by one, so that the counter can stop too
+-- the sink stops after one token: the channel grows by one, so that the counter stops too
 abbrev pub counter_outlives_sink : Network
 counter_outlives_sink =
     network (count 1 3 ∷ sink 1 ∷ [])
@@ -30,7 +30,7 @@ counter_outlives_sink_digest =
 abbrev pub CounterOutlivesSink : Type 0
 CounterOutlivesSink = HasDigest standard counter_outlives_sink counter_outlives_sink_digest
 
--- two full channels of one capacity: the one of least number grows first
+-- of two full channels of one capacity, the one with the lowest number grows first
 abbrev pub equal_capacities : Network
 equal_capacities =
     network (count 1 2 ∷ count 1 2 ∷ sink 0 ∷ sink 0 ∷ [])
@@ -52,7 +52,7 @@ equal_capacities_digest =
 abbrev pub EqualCapacities : Type 0
 EqualCapacities = HasDigest standard equal_capacities equal_capacities_digest
 
--- of two full channels the smaller one grows first, whatever their numbers
+-- of two full channels, the smaller grows first, whatever their numbers
 abbrev pub smallest_full_channel_grows : Network
 smallest_full_channel_grows =
     network (count 1 3 ∷ count 1 3 ∷ sink 0 ∷ sink 0 ∷ [])
@@ -74,7 +74,7 @@ smallest_full_channel_grows_digest =
 abbrev pub SmallestFullChannelGrows : Type 0
 SmallestFullChannelGrows = HasDigest standard smallest_full_channel_grows smallest_full_channel_grows_digest
 
--- a smaller full channel whose writer has stopped does not grow
+-- a smaller full channel does not grow if its writer has stopped
 abbrev pub full_channel_of_stopped_writer : Network
 full_channel_of_stopped_writer =
     network (count 1 1 ∷ count 1 3 ∷ sink 0 ∷ sink 0 ∷ [])
@@ -96,7 +96,7 @@ full_channel_of_stopped_writer_digest =
 abbrev pub FullChannelOfStoppedWriter : Type 0
 FullChannelOfStoppedWriter = HasDigest standard full_channel_of_stopped_writer full_channel_of_stopped_writer_digest
 
--- the same network with a step of four: one growth each is enough
+-- smallest_full_channel_grows with a step of four: one growth of each channel is enough
 abbrev pub growth_step : Network
 growth_step =
     record smallest_full_channel_grows { step = 4 }
@@ -117,7 +117,7 @@ growth_step_digest =
 abbrev pub GrowthStep : Type 0
 GrowthStep = HasDigest standard growth_step growth_step_digest
 
--- a channel that would have to grow and is at the ceiling: the run is over
+-- the chosen channel is at the ceiling: the run is over
 abbrev pub ceiling_reached : Network
 ceiling_reached =
     record (network (count 1 3 ∷ sink 0 ∷ []) (words (0, 0) (1, 0) 1 ∷ [])) { ceiling = 2 }
@@ -138,7 +138,7 @@ ceiling_reached_digest =
 abbrev pub CeilingReached : Type 0
 CeilingReached = HasDigest standard ceiling_reached ceiling_reached_digest
 
--- Parks's case: the weaver takes three tokens of one branch first, so the other branch has to grow
+-- Parks's case: the weave takes three tokens of one branch first, so the other has to grow
 abbrev pub parks_case : Network
 parks_case =
     network (count 1 3 ∷ copy ∷ weave 3 3 ∷ sink 6 ∷ [])

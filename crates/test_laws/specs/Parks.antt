@@ -15,7 +15,6 @@ use Rattle.test_laws.specs.Building.{numbers}
 abbrev pub process : List ℕ → List ℕ → List ℤ → ProcessSketch
 process name kind args = record { name = name; kind = kind; args = args }
 
--- a channel of words with capacity one
 abbrev pub channel : List ℕ → List ℕ → ℤ → List ℕ → ℤ → ChannelSketch
 channel name from out to input = record { name = name; from = from; to = to; out = out; input = input; sort = Words; capacity = pos 1; tokens = [] }
 
@@ -63,7 +62,7 @@ parks_digest =
       entries = 33;
     }
 
--- the same network with room for two tokens in the right branch from the start
+-- the network with capacity two in the right branch from the start
 abbrev pub roomy : Network
 roomy = resized parks (λ c. if c == 2 then 2 else 1)
 

@@ -8,7 +8,7 @@ use Rattle.kpn_standard.specs.Standard.{standard}
 use Rattle.kpn_laws.specs.Digested.{HasDigest}
 use Rattle.test_laws.specs.Building.{count, sink, take, copy, words, holding, numbers, network}
 
--- a counter of three into a sink of three: both stop, and nothing is left
+-- both stop, and nothing is left
 abbrev pub counter_into_sink : Network
 counter_into_sink =
     network (count 1 3 ∷ sink 3 ∷ [])
@@ -30,7 +30,7 @@ counter_into_sink_digest =
 abbrev pub CounterIntoSink : Type 0
 CounterIntoSink = HasDigest standard counter_into_sink counter_into_sink_digest
 
--- the sink wants one token more than comes: it waits, and the run is a deadlock
+-- the sink wants one token more than comes: a deadlock
 abbrev pub sink_waits_for_one_more : Network
 sink_waits_for_one_more =
     network (count 1 3 ∷ sink 4 ∷ [])
@@ -52,7 +52,7 @@ sink_waits_for_one_more_digest =
 abbrev pub SinkWaitsForOneMore : Type 0
 SinkWaitsForOneMore = HasDigest standard sink_waits_for_one_more sink_waits_for_one_more_digest
 
--- the sink stops after two tokens, and the third stays in the channel
+-- the sink stops after two tokens; the third stays in the channel
 abbrev pub sink_stops_early : Network
 sink_stops_early =
     network (count 1 3 ∷ sink 2 ∷ [])
@@ -74,7 +74,7 @@ sink_stops_early_digest =
 abbrev pub SinkStopsEarly : Type 0
 SinkStopsEarly = HasDigest standard sink_stops_early sink_stops_early_digest
 
--- a counter of none into a sink of none: both stop at once
+-- both stop at once
 abbrev pub nothing_to_count : Network
 nothing_to_count =
     network (count 5 0 ∷ sink 0 ∷ [])
@@ -96,7 +96,7 @@ nothing_to_count_digest =
 abbrev pub NothingToCount : Type 0
 NothingToCount = HasDigest standard nothing_to_count nothing_to_count_digest
 
--- a process that waits for its own output: nothing happens at all
+-- a process waits for its own output: nothing happens
 abbrev pub dead_from_the_start : Network
 dead_from_the_start =
     network (copy ∷ sink 1 ∷ [])
@@ -118,7 +118,7 @@ dead_from_the_start_digest =
 abbrev pub DeadFromTheStart : Type 0
 DeadFromTheStart = HasDigest standard dead_from_the_start dead_from_the_start_digest
 
--- a process that passes two tokens on to itself, and begins with one in its channel
+-- a process that passes two tokens on to itself, with one start token
 abbrev pub start_tokens : Network
 start_tokens =
     network (take 2 ∷ [])

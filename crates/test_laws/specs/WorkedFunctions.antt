@@ -1,4 +1,4 @@
--- What processes of the standard kinds write, and a filter, each worked out by hand.
+-- What processes of the standard kinds and a filter write, worked out by hand.
 use Rattle.std.specs.Prelude.{ℕ, ◌+◌, ◌%◌, ◌^◌, true, false, List, [], ◌∷◌}
 use Rattle.kpn_model.specs.declared.token.Token.{Token}
 use Rattle.kpn_model.specs.declared.kinds.Card.{Card}
@@ -12,7 +12,6 @@ use Rattle.kpn_streams.specs.Fed.{Writes}
 use Rattle.kpn_streams.specs.Functions.{words, flags, woven}
 use Rattle.kpn_streams.specs.Joined.{TakesTurns, IsRisingUnion}
 
--- a process of this kind with these arguments, fed with these, writes those
 abbrev pub Gives : Kind → List ℕ → List (List Token) → List (List Token) → Type 0
 Gives kind args ins outs = Writes standard (card_of_kind kind args) ins outs
 
@@ -31,11 +30,11 @@ CopiesToBoth = Gives Copy (0 ∷ 0 ∷ 0 ∷ []) (words (4 ∷ 5 ∷ []) ∷ [])
 abbrev pub BeginsWithNine : Type 0
 BeginsWithNine = Gives Prefix (9 ∷ 0 ∷ 0 ∷ []) (words (4 ∷ 5 ∷ []) ∷ []) (words (9 ∷ 4 ∷ 5 ∷ []) ∷ [])
 
--- the second sum is 2^64, and the third word of the first stream has no partner
+-- the second sum is 2^64; the third word of the first stream has no partner
 abbrev pub AddsAndWraps : Type 0
 AddsAndWraps = Gives Add (0 ∷ 0 ∷ 0 ∷ []) (words (1 ∷ 18446744073709551615 ∷ 3 ∷ []) ∷ words (10 ∷ 1 ∷ []) ∷ []) (words (11 ∷ 0 ∷ []) ∷ [])
 
--- three times 2^63 is 2^64 and 2^63
+-- three times 2^63 is 2^64 + 2^63
 abbrev pub ScalesAndWraps : Type 0
 ScalesAndWraps = Gives Scale (3 ∷ 0 ∷ 0 ∷ []) (words (5 ∷ 9223372036854775808 ∷ []) ∷ []) (words (15 ∷ 9223372036854775808 ∷ []) ∷ [])
 
@@ -44,7 +43,7 @@ abbrev pub WeavesTwoAndOne : Type 0
 WeavesTwoAndOne =
     Gives Weave (2 ∷ 1 ∷ 0 ∷ []) (words (1 ∷ 2 ∷ 3 ∷ 4 ∷ 5 ∷ []) ∷ words (10 ∷ 20 ∷ 30 ∷ []) ∷ []) (words (1 ∷ 2 ∷ 10 ∷ 3 ∷ 4 ∷ 20 ∷ 5 ∷ []) ∷ [])
 
--- 3 comes once; the second stream ends, and 5 and 9 are not written
+-- 3 comes once; the second stream ends, so 5 and 9 are not written
 abbrev pub MergesUpToFour : Type 0
 MergesUpToFour = Gives Merge (0 ∷ 0 ∷ 0 ∷ []) (words (1 ∷ 3 ∷ 5 ∷ 9 ∷ []) ∷ words (2 ∷ 3 ∷ 4 ∷ []) ∷ []) (words (1 ∷ 2 ∷ 3 ∷ 4 ∷ []) ∷ [])
 
@@ -62,19 +61,19 @@ SelectsByFlags =
     Gives Select (0 ∷ 0 ∷ 0 ∷ []) (words (1 ∷ 2 ∷ []) ∷ words (10 ∷ 20 ∷ []) ∷ flags (true ∷ false ∷ false ∷ true ∷ false ∷ []) ∷ [])
     (words (10 ∷ 1 ∷ 2 ∷ 20 ∷ []) ∷ [])
 
--- a filter that keeps the total so far, modulo 2^64, and writes it
+-- a filter that keeps and writes the total so far, modulo 2^64
 abbrev pub at_none : Card → List ℕ
 at_none card = 0 ∷ 0 ∷ 0 ∷ 0 ∷ []
 
 abbrev pub total : Card → List ℕ → ℕ → List ℕ × ℕ
 total card kept w = ((at kept 0 + w) % 2 ^ 64 ∷ 0 ∷ 0 ∷ 0 ∷ [], (at kept 0 + w) % 2 ^ 64)
 
--- the third total is 2^64 and 2
+-- the third total is 2^64 + 2
 abbrev pub TotalsSoFar : Type 0
 TotalsSoFar =
     (card : Card) → Writes (filter_family at_none total) card (words (1 ∷ 2 ∷ 18446744073709551615 ∷ 4 ∷ []) ∷ []) (words (1 ∷ 3 ∷ 2 ∷ 6 ∷ []) ∷ [])
 
--- two words and one are turns; and the numbers that merge writes above are the rising union
+-- two words and one are turns; the numbers that merge writes above are the rising union
 abbrev pub TwoAndOneAreTurns : Type 0
 TwoAndOneAreTurns = TakesTurns 2 1 (woven 2 1)
 

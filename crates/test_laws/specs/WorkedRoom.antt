@@ -10,26 +10,24 @@ use Rattle.kpn_standard.specs.Standard.{standard}
 use Rattle.kpn_laws.specs.Sufficient.{EndsWithin, LastsWithin}
 use Rattle.test_laws.specs.Building.{count, sink, copy, scale, weave, words, holding, numbers, network}
 
--- a process and a channel with a name, as in a description
 abbrev pub process_named : List ℕ → Process → Process
 process_named name p = record p { name = name }
 
 abbrev pub with_name : List ℕ → Channel → Channel
 with_name name c = record c { name = name }
 
--- Parks's case with a counter of five: when the counter and the copy are both blocked, capacity for one more token of the copy is
--- enough, and more capacity for the counter does not help
+-- Parks's case with a counter of five: when the counter and the copy are both blocked, room for one more
+-- token of the copy is enough; more room for the counter does not help
 abbrev pub longer_parks_case : Network
 longer_parks_case =
     network
     (process_named (codes "src") (count 1 5) ∷ process_named (codes "cp") copy ∷ process_named (codes "wv") (weave 3 3) ∷ process_named (codes "snk") (sink 8) ∷ [])
     (with_name (codes "c0") (words (0, 0) (1, 0) 1) ∷ with_name (codes "c1") (words (1, 0) (2, 0) 1) ∷ with_name (codes "c2") (words (1, 1) (2, 1) 1) ∷ with_name (codes "c3") (words (2, 0) (3, 0) 1) ∷ [])
 
--- capacity two suffices for it, in a run of 46 entries
 abbrev pub TwoPlacesSuffice : Type 0
 TwoPlacesSuffice = (s : EndsWithin standard longer_parks_case 2) × (length s.history ≡ 46)
 
--- so whatever the schedule no channel ever has three
+-- so no channel ever has capacity three
 abbrev pub NeverThree : Type 0
 NeverThree = (E : List Entry) (M : State) → IsRun standard longer_parks_case E M → (c : ℕ) → capacity M c < 3
 
@@ -37,6 +35,6 @@ NeverThree = (E : List Entry) (M : State) → IsRun standard longer_parks_case E
 abbrev pub ring : Network
 ring = network (scale 1 ∷ []) (holding (numbers (7 ∷ [])) (words (0, 0) (0, 0) 1) ∷ [])
 
--- capacity one suffices for it, for any number of deeds
+-- capacity one suffices, for any number of deeds
 abbrev pub RingLasts : Type 0
 RingLasts = (n : ℕ) → LastsWithin standard ring 1 n

@@ -8,11 +8,11 @@ use Rattle.test_laws.specs.Growing.{parks_case, parks_case_digest}
 use Rattle.test_laws.specs.Computing.{running_sums, running_sums_digest}
 use Rattle.test_laws.specs.WorkedRoom.{ring}
 
--- in Parks's case 1, 2, 3 on the counter's channel and on both branches, and then 1, 2, 3, 1, 2, 3
+-- 1, 2, 3 on the counter's channel and on both branches, then 1, 2, 3, 1, 2, 3
 abbrev pub ParksSolution : Type 0
 ParksSolution = IsLeastSolution standard parks_case (listed parks_case_digest.streams)
 
--- the sums of 1, 2, 3 so far, which are fed back through a channel that begins with 0
+-- the running sums of 1, 2, 3, fed back through a channel that begins with 0
 abbrev pub SumsSolution : Type 0
 SumsSolution = IsLeastSolution standard running_sums (listed running_sums_digest.streams)
 
@@ -21,6 +21,6 @@ abbrev pub endless : Streams
 endless zero n = Some (Word 7)
 endless (suc c) n = None
 
--- what a process that passes a token on to itself has: no run of it ends
+-- the solution of a process that passes a token on to itself; no run of it ends
 abbrev pub RingSolution : Type 0
 RingSolution = IsLeastSolution standard ring endless

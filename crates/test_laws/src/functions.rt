@@ -7,7 +7,7 @@ use kpn_compute::Filters;
 use kpn_model::{Card, Local};
 use kpn_streams::{filter_function_of, standard_functions};
 
-/// Filters that keep the total so far, modulo 2^64, and write it. They have no name in descriptions.
+/// Filters that keep and write the total so far, modulo 2^64. Descriptions have no name for them.
 struct Totals;
 
 impl Filters for Totals {
@@ -39,9 +39,9 @@ impl Filters for Totals {
     fn lawful() {}
 }
 
-/// Ghost lemma: what a process of each standard kind writes, and a filter that keeps a total, fed with
-/// the words and flags that are written there. `turns` and `union` meet what two laws ask. It uses
-/// nothing but what `standard_functions` and `filter_function_of` ensure.
+/// Ghost lemma: what a process of each standard kind writes, and a filter that keeps a total, fed with given
+/// words and flags. `turns` and `union` meet the premises of two laws. The proof uses only
+/// `standard_functions` and `filter_function_of`.
 pub fn worked_functions()
     ensures count { CountsFourFromThree }
     ensures sink { SinksAll }
@@ -63,17 +63,16 @@ pub fn worked_functions()
     filter_function_of::<Totals>();
 }
 
-/// Ghost lemma: the standard kinds don't write by functions that are changed a little.
+/// Ghost lemma: the standard kinds don't write by slightly changed functions.
 ///
-/// `count`: the numbers up to n. `take`: one word more. `copy`: to its outputs in turn. `prefix`: without
-/// its word. `add`: sums of more than 64 bits. `weave`: the second stream for ever, after one turn of the
-/// first. `keeps_both`: merge writes both of two equal heads. `drains`: it writes the rest of one stream
-/// where the other has ended. `divides`: whether the word divides m. `switch`: to output 0 by a true flag.
-/// `select`: a word of each stream is taken for each flag. `filter`: each word is stepped with what was
-/// kept at the start.
+/// `count`: the numbers up to n. `take`: one word more. `copy`: to its outputs in turn. `prefix`: without its
+/// word. `add`: sums of more than 64 bits. `weave`: the second stream for ever, after one turn of the first.
+/// `keeps_both`: merge writes both of two equal heads. `drains`: it writes the rest of one stream where the
+/// other has ended. `divides`: whether the word divides m. `switch`: to output 0 for a true flag. `select`: a
+/// word of each stream for each flag. `filter`: each word with the local state of the start.
 ///
-/// And two laws need what they ask: `no_turn`: weave doesn't take turns of no word. `has_all`: what is
-/// merged of two rising streams needn't have what follows where one of them has ended.
+/// Two laws need their premises. `no_turn`: weave doesn't take turns of no word. `has_all`: the merge of two
+/// rising streams may lack what follows where one has ended.
 pub fn changed_functions()
     ensures count { CountsUpTo → ⊥ }
     ensures take { TakesOneMore → ⊥ }

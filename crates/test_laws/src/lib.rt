@@ -1,7 +1,5 @@
-//! What meets the premises of the laws, networks that were worked out by hand, and changed definitions
-//! that make a law false.
-//!
-//! A function here does nothing: what it ensures is proved.
+//! Networks that meet the premises of the laws, networks worked out by hand, and changed definitions that
+//! make a law false. The functions do nothing; what they ensure is proved.
 #![tactic(auto)]
 
 mod bounds;

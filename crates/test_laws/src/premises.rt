@@ -12,11 +12,11 @@ use kpn_laws::typed_runs;
 use kpn_model::Kinds;
 use kpn_standard::Standard;
 
-/// Ghost lemma: the standard kinds are lawful, so each run of a valid network of them is well-typed at
-/// each moment.
+/// Ghost lemma: the standard kinds are lawful, so each run of a valid network of them is well-typed at each
+/// moment.
 ///
-/// `any_card`: for cards with numbers that no card can hold the law of ports is false; a `prefix` of
-/// 2^64 would write a word of more than 64 bits.
+/// `any_card`: the law of ports is false for numbers that no card can hold; a `prefix` of 2^64 would write a
+/// word of more than 64 bits.
 pub fn standard_kinds_are_lawful()
     ensures lawful { AreLawful signature Admitted standard }
     ensures well_typed { StaysWellTyped signature Admitted standard }
@@ -26,9 +26,9 @@ pub fn standard_kinds_are_lawful()
     typed_runs::<Standard>();
 }
 
-/// Ghost lemma: Parks's case meets the premises of the laws. It is valid; all its runs that are over
-/// have one digest, with a growth at an artificial deadlock, and there is such a run. With capacity
-/// two in the right branch there is one too, with the same deeds and no growth (Parks 1995).
+/// Ghost lemma: Parks's case meets the premises of the laws. It is valid; its runs that are over have one
+/// digest, with a growth, and there is such a run. With capacity two in the right branch they have the same
+/// deeds and no growth (Parks 1995).
 pub fn parks_case_meets_the_premises()
     ensures valid { IsValid signature parks }
     ensures digest { HasDigest standard parks parks_digest }

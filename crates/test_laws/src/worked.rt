@@ -1,11 +1,10 @@
-//! Networks whose outcome is written out.
+//! Networks with outcomes written out.
 ghost use Rattle.test_laws.specs.WorkedEnds.{CounterIntoSink, SinkWaitsForOneMore, SinkStopsEarly, NothingToCount, DeadFromTheStart, StartTokens};
 ghost use Rattle.test_laws.specs.Growing.{CounterOutlivesSink, EqualCapacities, SmallestFullChannelGrows, FullChannelOfStoppedWriter, GrowthStep, CeilingReached, ParksCase};
 ghost use Rattle.test_laws.specs.Computing.{ProductsWrap, SwitchedByFlags, RunningSums, MergedInOrder};
 
-/// Ghost lemma: the digests of worked networks of the standard kinds. Each clause says of its network
-/// that some run that is over has the digest written there, and that every other run that is over has
-/// the same, whatever the schedule.
+/// Ghost lemma: the digests of worked networks of the standard kinds. Each clause says that some run of its
+/// network is over with the digest in `specs`, and that every run that is over has it, whatever the schedule.
 pub fn worked_networks()
     ensures counter_into_sink { CounterIntoSink }
     ensures sink_waits_for_one_more { SinkWaitsForOneMore }

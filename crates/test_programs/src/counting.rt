@@ -18,7 +18,6 @@ use std::test::Fail;
 use std::thread::Threads;
 use test_texts::{COUNTER, reports};
 
-/// A body of a standard card that adds one to a count each time it is called.
 #[derive(Drop)]
 struct CountingBody {
     card: Card,
@@ -41,7 +40,6 @@ impl Body for CountingBody {
     }
 }
 
-/// A body of a card that counts its calls here.
 fn counting(card: Card, calls: &Arc<AtomicU64>) -> Result<CountingBody, AllocError>
     requires { IsSome (signature card) }
     ensures { IfOk result (λ body. body.card ≡ card) }
@@ -52,7 +50,6 @@ fn counting(card: Card, calls: &Arc<AtomicU64>) -> Result<CountingBody, AllocErr
     })
 }
 
-/// The card of a process.
 pub(crate) fn signed_card(net: &Net<Standard>, process: usize) -> Card
     requires valid { IsValid signature net.now }
     requires within { process < length net.now.processes }
@@ -62,7 +59,6 @@ pub(crate) fn signed_card(net: &Net<Standard>, process: usize) -> Card
     net.card(process)
 }
 
-/// A body for each process of a network.
 fn bodies_of(
     alloc: Global,
     net: &Net<Standard>,
@@ -82,7 +78,7 @@ pub(crate) fn network_of(alloc: Global, text: &str) -> Result<Net<Standard>, Net
     load(alloc, &mut source)
 }
 
-/// What is shown, the exit status, what is written, and how often the bodies are called.
+/// The channel to show, the exit status, the output, and how often the bodies are called.
 struct Shown {
     name: &'static str,
     status: u8,
@@ -90,8 +86,7 @@ struct Shown {
     calls: u64,
 }
 
-/// The bodies are called once for each deed of the run, and not at all if no channel has the name to
-/// show.
+/// The bodies are called once for each deed, and not at all if no channel has the name to show.
 static SHOWN: [Shown; 2] = [
     Shown {
         name: "c0",
@@ -107,7 +102,6 @@ static SHOWN: [Shown; 2] = [
     },
 ];
 
-/// Runs the counter's network, and returns the exit status.
 fn executed<R: Threads + Wait + Clock + Abort + Sync>(
     rt: &R,
     alloc: Global,
@@ -123,7 +117,6 @@ fn executed<R: Threads + Wait + Clock + Abort + Sync>(
     execute(rt, alloc, net, bodies, workers, Some(row.name), out)
 }
 
-/// Runs the counter's network, and compares what is written and how often the bodies are called.
 fn tells_shown<R: Threads + Wait + Clock + Abort + Sync>(
     rt: &R,
     alloc: Global,

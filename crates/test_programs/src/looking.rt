@@ -1,4 +1,4 @@
-//! A flow at which its user looks, without going on.
+//! A user looks at a flow without running it.
 use crate::checks::same;
 use crate::counting::network_of;
 use kpn_body::Standard;
@@ -8,7 +8,7 @@ use kpn_net::Token;
 use std::alloc::Global;
 use std::process::Abort;
 
-/// Words come in over channel 0 of two places, and go out three times as great over channel 1 of one.
+/// Words come in over channel 0 of capacity two, and go out tripled over channel 1 of capacity one.
 const SCALE: &str = "version = 1
 process = [
     { name = \"src\", kind = \"count\", args = [0, 0] },
@@ -21,7 +21,6 @@ channel = [
 ]
 ";
 
-/// A flow, and the numbers of its inputs in the order of their places.
 #[derive(Drop)]
 struct Looked {
     flow: Flow<CardBody<Standard>>,
@@ -33,14 +32,13 @@ impl Looked {
         self.flow.stand()
     }
 
-    /// How many tokens an input holds, and may hold.
+    /// Returns an input's number of tokens and its capacity.
     fn fill(&self, place: usize) -> Option<(usize, usize)> {
         let channel = self.inputs.get(place).copied()?;
         Some(self.flow.tokens_and_capacity(channel))
     }
 }
 
-/// The flow that scales words by three, at its start.
 fn scaling<R: Abort>(rt: &R, alloc: Global) -> Looked {
     let net = network_of(alloc, SCALE).expect(rt, "a fault");
     let bodies = bodies_of(alloc, &net).expect(rt, "memory");
@@ -52,7 +50,6 @@ fn scaling<R: Abort>(rt: &R, alloc: Global) -> Looked {
     Looked { flow, inputs }
 }
 
-/// Feeds a word into channel 0, which has room for it.
 fn feed<R: Abort>(rt: &R, looked: &mut Looked, word: u64) {
     let token = Token::Word(word);
     assert!(rt; looked.flow.may_feed(0, token));

@@ -19,8 +19,7 @@ use std::thread;
 use std::thread::Threads;
 use test_texts::{COUNTER, reports};
 
-/// How often the counter's body and its sink's were called, and how many of the two have seen at their first call
-/// that the other was called.
+/// `seen` counts the bodies that saw the other's first call.
 #[derive(Drop)]
 struct Calls {
     counter: AtomicU64,
@@ -28,7 +27,6 @@ struct Calls {
     seen: AtomicU64,
 }
 
-/// A body of a standard card that waits at its first call until the other was called.
 #[derive(Drop)]
 struct MeetingBody {
     card: Card,
@@ -52,8 +50,8 @@ impl Body for MeetingBody {
     }
 }
 
-/// Counts a call, and waits at the first until the other body was called. Between two looks other threads may go
-/// on. A wait that is in vain ends with the test, after a minute.
+/// Counts a call, and waits at the first until the other body was called. It yields between two looks. If the
+/// other is never called, the test times out after a minute.
 fn meet(is_counter: bool, calls: &Calls) {
     let (mine, other) = if is_counter {
         (&calls.counter, &calls.sink)
@@ -72,7 +70,6 @@ fn meet(is_counter: bool, calls: &Calls) {
     }
 }
 
-/// The body of a card, of the counter if its process is the first.
 fn meeting(card: Card, process: usize, calls: &Arc<Calls>) -> Result<MeetingBody, AllocError>
     requires { IsSome (signature card) }
     ensures { IfOk result (λ body. body.card ≡ card) }
@@ -84,7 +81,6 @@ fn meeting(card: Card, process: usize, calls: &Arc<Calls>) -> Result<MeetingBody
     })
 }
 
-/// A body for each process of a network.
 fn bodies_of(
     alloc: Global,
     net: &Net<Standard>,
@@ -99,7 +95,6 @@ fn bodies_of(
     Ok(bodies)
 }
 
-/// Runs the counter's network by several workers, and compares what is written, and how many bodies have met.
 fn meets<R: Threads + Wait + Clock + Abort + Sync>(rt: &R, alloc: Global, workers: usize)
     requires { (1 ≤ workers) × (workers ≤ 16) }
 {

@@ -1,8 +1,8 @@
-//! One request for memory is refused while `execute` runs a network by two workers, whichever it is, or the start of a
-//! thread.
+//! One allocation fails, whichever it is, while `execute` runs a network with two workers; or a thread
+//! doesn't start.
 //!
-//! Each test of memory prints what was written: the report (`nothing`), that memory was refused (`execute`), or that it
-//! was for a growth (`growth`). What is written is written into room that was taken before.
+//! Each memory test prints what failed: `nothing` (the report was written), `execute`, `growth`, or
+//! `elsewhere` in the test itself. The room for the output is allocated first.
 use crate::checks::same;
 use crate::counting::network_of;
 use kpn_compute::bodies_of;
@@ -17,10 +17,9 @@ use std::test::Fail;
 use std::thread::Threads;
 use test_texts::{COPIED_AND_WOVEN, RUNNING_SUMS, reports};
 
-/// More bytes than are written of any run here.
+/// More bytes than any run here writes.
 const ROOM: usize = 1000;
 
-/// A network that ends in a deadlock, the channel to show, and the report.
 struct Row {
     text: &'static str,
     show: &'static str,
@@ -39,7 +38,7 @@ static SUMS: Row = Row {
     report: reports::SUMS_BACK,
 };
 
-/// The network of a row, which is refused only if memory is.
+/// Errors: out of memory. Any other fault fails the test.
 fn net_or_refused<R: Abort>(rt: &R, alloc: Global, row: &Row) -> Result<Net<Standard>, AllocError> {
     match network_of(alloc, row.text) {
         Ok(net) => Ok(net),
@@ -50,8 +49,7 @@ fn net_or_refused<R: Abort>(rt: &R, alloc: Global, row: &Row) -> Result<Net<Stan
     }
 }
 
-/// Runs the network of a row by two workers, and returns the word for what was written. Fails if memory for the test
-/// itself was refused.
+/// Errors: out of memory for the test itself.
 fn written<R: Threads + Wait + Clock + Abort + Sync>(
     rt: &R,
     alloc: Global,
@@ -64,7 +62,7 @@ fn written<R: Threads + Wait + Clock + Abort + Sync>(
     Ok(word_of(rt, status, out.as_slice(), row.report))
 }
 
-/// The word for what was written with this status: one of three texts, and nothing else.
+/// There are only three outputs.
 fn word_of<R: Abort>(rt: &R, status: u8, out: &[u8], report: &str) -> &'static str {
     let all = [
         (5, report, "nothing"),
@@ -93,7 +91,7 @@ fn running_sums(rt: HostRuntime) -> Result<(), Fail> {
     Ok(())
 }
 
-/// With memory the report is written, whichever thread is not started.
+/// With memory the report is written, whichever thread doesn't start.
 #[test]
 fn runs_go_on_without_a_thread(rt: HostRuntime) {
     for row in [&PARKS_CASE, &SUMS] {

@@ -1,4 +1,4 @@
-//! Command lines with descriptions, and what is written of them.
+//! Command lines with descriptions, and their output.
 use crate::checks::same;
 use kpn_execute::serve;
 use std::alloc::Global;
@@ -8,7 +8,7 @@ use std::sync::Wait;
 use std::thread::Threads;
 use test_texts::COUNTER;
 
-/// Arguments, a description, the exit status, the number of the fault or 0, and what is written.
+/// `fault` is the number of the description's fault, or 0.
 struct Command {
     name: &'static str,
     words: &'static [&'static str],
@@ -69,7 +69,7 @@ static COMMANDS: [Command; 6] = [
     },
 ];
 
-/// The exit status, and the number of the description's fault or 0.
+/// Returns the exit status, and the number of the fault or 0.
 fn served<R: Threads + Wait + Clock + Sync>(
     rt: &R,
     alloc: Global,
@@ -86,7 +86,6 @@ fn served<R: Threads + Wait + Clock + Sync>(
     }
 }
 
-/// Runs the program with the arguments of a row, and compares its outcome.
 fn tells_command<R: Threads + Wait + Clock + Abort + Sync>(rt: &R, alloc: Global, row: &Command) {
     let mut out = Vec::new(alloc);
     let found = served(rt, alloc, row, &mut out);

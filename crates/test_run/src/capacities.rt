@@ -1,4 +1,4 @@
-//! The same network from all starting capacities.
+//! Runs of one network from all starting capacities.
 use crate::texts::fill;
 use crate::whole::{Whole, shows_endless, shows_whole};
 use kpn_net::Token;
@@ -11,20 +11,17 @@ use std::sync::Wait;
 use std::thread::Threads;
 use test_texts::{COPIED_AND_WOVEN, ENDLESS, TWO_FULL_CHANNELS};
 
-/// The tokens that each counter writes.
 static COUNTED: [Token; 3] = [Word(1), Word(2), Word(3)];
 
-/// What the weave of Parks's case writes.
 static WOVEN: [Token; 6] = [Word(1), Word(2), Word(3), Word(1), Word(2), Word(3)];
 
-/// A description with these capacities, in the order of its channels, in place of its own.
+/// Returns the description with its capacities replaced, in the order of its channels.
 fn with_capacities<R: Abort>(rt: &R, alloc: Global, text: &str, capacities: &[usize]) -> String {
     let mut described = String::new(alloc);
     describe(rt, &mut described, text, capacities);
     described
 }
 
-/// Writes a description with these capacities.
 fn describe<R: Abort>(rt: &R, described: &mut String, text: &str, capacities: &[usize]) {
     let mut channel = 0usize;
     for line in text.lines() {
@@ -40,7 +37,7 @@ fn describe<R: Abort>(rt: &R, described: &mut String, text: &str, capacities: &[
     }
 }
 
-/// The report of Parks's case, up to its growth: only capacities depend on the starting capacities.
+/// Parks's case up to its growths; `A` to `D` are the capacities.
 const WOVEN_LINES: &str = "end deadlock
 process src stopped steps 4
 process cp reads c0 steps 9
@@ -52,8 +49,7 @@ channel c2 put 3 left 0 capacity C
 channel c3 put 6 left 0 capacity D
 ";
 
-/// The report of Parks's case: only capacities, growths and the number of entries depend on the
-/// starting capacities, and the third channel grows if it starts with capacity one.
+/// `c2` grows if it starts with capacity one.
 fn woven_lines<R: Abort>(rt: &R, alloc: Global, capacities: [usize; 4]) -> String {
     let [c0, c1, c2, c3] = capacities;
     let (grown, rest) = match c2 {
@@ -66,7 +62,6 @@ fn woven_lines<R: Abort>(rt: &R, alloc: Global, capacities: [usize; 4]) -> Strin
     lines
 }
 
-/// Each of the 256 choices of capacities from 1 to 4, by one worker and by four.
 #[test]
 fn parks_case_from_all_capacities(rt: HostRuntime) {
     for choice in 0..256usize {
@@ -80,7 +75,6 @@ fn parks_case_from_all_capacities(rt: HostRuntime) {
     }
 }
 
-/// Parks's case from these capacities.
 fn shows_woven<R: Threads + Wait + Clock + Abort + Sync>(
     rt: &R,
     alloc: Global,
@@ -100,7 +94,6 @@ fn shows_woven<R: Threads + Wait + Clock + Abort + Sync>(
     shows_by_one_and_four(rt, alloc, described.as_str(), due);
 }
 
-/// Runs the network of a text by one worker and by four.
 fn shows_by_one_and_four<R: Threads + Wait + Clock + Abort + Sync>(
     rt: &R,
     alloc: Global,
@@ -112,7 +105,7 @@ fn shows_by_one_and_four<R: Threads + Wait + Clock + Abort + Sync>(
     }
 }
 
-/// The report of two counters of three into sinks of nothing, up to the growths.
+/// Two counters of three into sinks of nothing: the report up to the growths.
 const TWO_FULL_LINES: &str = "end terminated
 process a stopped steps 4
 process b stopped steps 4
@@ -122,8 +115,7 @@ channel c0 put 3 left 3 capacity A
 channel c1 put 3 left 3 capacity B
 ";
 
-/// The report of two counters of three into sinks of nothing: each channel grows to capacity three, the
-/// smaller first, and the first one if they are equal.
+/// Each channel grows to capacity three, the smaller first, and the first if they are equal.
 fn two_full_lines<R: Abort>(rt: &R, alloc: Global, first: usize, second: usize) -> String {
     let mut lines = String::new(alloc);
     let last = [first.max(3), second.max(3)];
@@ -133,7 +125,6 @@ fn two_full_lines<R: Abort>(rt: &R, alloc: Global, first: usize, second: usize) 
     lines
 }
 
-/// Writes the growths, and returns how many there are.
 fn write_growths<R: Abort>(rt: &R, lines: &mut String, first: usize, second: usize) -> usize {
     let mut growths = 0usize;
     for to in 2..=3usize {
@@ -147,7 +138,6 @@ fn write_growths<R: Abort>(rt: &R, lines: &mut String, first: usize, second: usi
     growths
 }
 
-/// Two channels that grow, from each capacity from 1 to 4, by one worker and by four.
 #[test]
 fn two_growing_channels_from_all_capacities(rt: HostRuntime) {
     for first in 1..=4usize {
@@ -157,7 +147,6 @@ fn two_growing_channels_from_all_capacities(rt: HostRuntime) {
     }
 }
 
-/// Two channels that grow, from these capacities.
 fn shows_two_full<R: Threads + Wait + Clock + Abort + Sync>(
     rt: &R,
     alloc: Global,
@@ -173,7 +162,7 @@ fn shows_two_full<R: Threads + Wait + Clock + Abort + Sync>(
     shows_by_one_and_four(rt, alloc, described.as_str(), due);
 }
 
-/// Hamming's numbers never end; from capacities of one and of two the sink takes the same ten.
+/// The sink takes the same ten of Hamming's numbers.
 #[test]
 fn an_endless_network_from_two_capacities(rt: HostRuntime) {
     for capacity in [1, 2] {

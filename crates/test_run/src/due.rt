@@ -1,4 +1,4 @@
-//! The expected results of runs, and how a run is compared with them.
+//! Expected results of runs, and comparisons with them.
 ghost use Rattle.std.specs.Prelude.{◌<◌, length};
 
 use crate::checks::same;
@@ -11,21 +11,18 @@ use std::alloc::{AllocError, Global};
 use std::process::Abort;
 use test_texts::reports;
 
-/// The expected result of a run.
 #[derive(Clone, Copy)]
 pub(crate) struct Due {
     pub(crate) end: End,
     pub(crate) entries: u64,
     pub(crate) processes: usize,
-    /// How many processes have stopped.
     pub(crate) stopped: usize,
-    /// The whole text of the report, with the stream of the channel that is shown.
+    /// The whole report, with the stream of channel `show`.
     pub(crate) text: &'static str,
     pub(crate) show: usize,
     pub(crate) stream: &'static [Token],
 }
 
-/// A counter of three into a sink of three.
 pub(crate) static COUNTER_ENDS: Due = Due {
     end: End::Terminated,
     entries: 8,
@@ -47,7 +44,7 @@ pub(crate) static WOVEN_ENDS: Due = Due {
     stream: &[Word(1), Word(2), Word(3), Word(1), Word(2), Word(3)],
 };
 
-/// A chain in which all processes can go on at first: each token of a channel's start comes out in turn.
+/// A chain in which all processes are enabled at first; the start tokens come out in turn.
 pub(crate) static READY_CHAIN_ENDS: Due = Due {
     end: End::Deadlock,
     entries: 42,
@@ -89,7 +86,7 @@ pub(crate) static SMALL_SINK_ENDS: Due = Due {
     stream: &[Word(1), Word(2), Word(3)],
 };
 
-/// The smallest full channel grows first, and among equals the one of least number.
+/// The smallest full channel grows first, and among equals the one with the lowest number.
 pub(crate) static TWO_FULL_END: Due = Due {
     end: End::Terminated,
     entries: 13,
@@ -112,7 +109,7 @@ stream c1 1 2 3
     stream: &[Word(1), Word(2), Word(3)],
 };
 
-/// Running sums: they come out, with the start token in front of those that come back.
+/// The running sums come out; those that come back follow the start token.
 pub(crate) static RUNNING_SUMS_END: Due = Due {
     end: End::Deadlock,
     entries: 26,
@@ -123,7 +120,6 @@ pub(crate) static RUNNING_SUMS_END: Due = Due {
     stream: &[Word(0), Word(1), Word(3), Word(6)],
 };
 
-/// Compares a run with its expected result, its report to the byte.
 pub(crate) fn compare<K: Kinds, R: Abort>(
     rt: &R,
     alloc: Global,
@@ -136,7 +132,6 @@ pub(crate) fn compare<K: Kinds, R: Abort>(
     compare_stream(rt, alloc, finish, due.show, due.stream)
 }
 
-/// Compares how a run ended, and its numbers of entries, growths and stopped processes.
 fn compare_numbers<K: Kinds, R: Abort>(rt: &R, finish: &Finish<K>, due: &Due) {
     same(rt, "receipts", finish.receipts(), due.entries);
     same(rt, "history", finish.history().len() as u64, due.entries);
@@ -146,7 +141,6 @@ fn compare_numbers<K: Kinds, R: Abort>(rt: &R, finish: &Finish<K>, due: &Due) {
     same(rt, "end", finish.end(), due.end);
 }
 
-/// How many processes have stopped.
 fn stopped_in(standings: &[Standing]) -> usize {
     let mut stopped = 0usize;
     for standing in standings {
@@ -157,7 +151,6 @@ fn stopped_in(standings: &[Standing]) -> usize {
     stopped
 }
 
-/// The text of a run's report, with the stream of a channel if one is given.
 pub(crate) fn text_of_run<K: Kinds>(
     alloc: Global,
     finish: &Finish<K>,
@@ -169,7 +162,6 @@ pub(crate) fn text_of_run<K: Kinds>(
     text_of(alloc, net, history, places.as_slice(), finish.end(), show)
 }
 
-/// Compares the stream of a channel with the expected tokens.
 pub(crate) fn compare_stream<K: Kinds, R: Abort>(
     rt: &R,
     alloc: Global,

@@ -1,4 +1,4 @@
-//! The report of a history that was worked out by hand.
+//! The report of a history worked out by hand.
 use crate::checks::same;
 use kpn_front::load;
 use kpn_net::{Deed, End, Entry, Net, Place, Token};
@@ -8,7 +8,7 @@ use std::alloc::Global;
 use std::process::Abort;
 use test_texts::{COUNTER, reports};
 
-/// A counter of three tokens, of which the first is taken; the sink stops, and the channel grows.
+/// A counter of three tokens into a sink of one: after the sink stops, the channel grows.
 static HISTORY: [Entry; 7] = [
     Entry::Did {
         process: 0,
@@ -51,27 +51,23 @@ static HISTORY: [Entry; 7] = [
 
 static PLACES: [Place; 2] = [Place::Stopped, Place::Stopped];
 
-/// The stream of the channel.
 static STREAM: [Token; 3] = [Token::Word(1), Token::Word(2), Token::Word(3)];
 
-/// What is left in the channel.
 static REST: [Token; 2] = [Token::Word(2), Token::Word(3)];
 
 const TEXT: &str = reports::SINK_OF_ONE_STREAM;
 
-/// The network of the history.
 fn network<R: Abort>(rt: &R, alloc: Global) -> Net<Standard> {
     let mut source = COUNTER.as_bytes();
     load(alloc, &mut source).expect(rt, "no network")
 }
 
-/// Compares the text of the history.
 fn assert_text<R: Abort>(rt: &R, alloc: Global, net: &Net<Standard>, end: End, lines: &str) {
     let text = text_of(alloc, net, &HISTORY, &PLACES, end, Some(0)).expect(rt, "no text");
     same(rt, "text", text.as_str(), lines);
 }
 
-/// The report of the history, with this end; its text is compared.
+/// Returns the report, after comparing its text.
 fn report<R: Abort>(rt: &R, alloc: Global, end: End, lines: &str) -> Report {
     let net = network(rt, alloc);
     assert_text(rt, alloc, &net, end, lines);
@@ -90,7 +86,6 @@ fn a_history_has_its_report(rt: HostRuntime) {
     compare_streams(&rt, &detail);
 }
 
-/// Compares the stream of the channel, and what is left of it.
 fn compare_streams<R: Abort>(rt: &R, detail: &Detail) {
     let stream = detail.streams.as_slice().first().expect(rt, "no stream");
     same(rt, "stream", stream.as_slice(), STREAM.as_slice());
@@ -98,7 +93,6 @@ fn compare_streams<R: Abort>(rt: &R, detail: &Detail) {
     same(rt, "rest", rest.as_slice(), REST.as_slice());
 }
 
-/// Compares the numbers and lists of a report.
 fn compare_detail<R: Abort>(rt: &R, detail: &Detail) {
     same(rt, "places", detail.places.as_slice(), PLACES.as_slice());
     same(rt, "steps", detail.steps.as_slice(), [4, 2].as_slice());

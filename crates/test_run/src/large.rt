@@ -1,4 +1,4 @@
-//! The largest networks: 64 processes, by one worker and by sixteen.
+//! The largest networks, of 64 processes, with one worker and with sixteen.
 use crate::texts::{Row, text_of_rows};
 use crate::whole::{Whole, shows_whole};
 use kpn_net::Token;
@@ -33,7 +33,6 @@ static PAIRS: [Row; 4] = [
     },
 ];
 
-/// Their report: each passes one token on and stops.
 static PAIR_LINES: [Row; 5] = [
     Row {
         from: 0,
@@ -62,7 +61,6 @@ static PAIR_LINES: [Row; 5] = [
     },
 ];
 
-/// Compares the report of the network of a text, and the stream of a channel, however it is run.
 fn shows_large<R: Threads + Wait + Clock + Abort + Sync>(
     rt: &R,
     alloc: Global,
@@ -79,7 +77,6 @@ fn shows_large<R: Threads + Wait + Clock + Abort + Sync>(
     shows_by_one_and_sixteen(rt, alloc, text.as_str(), due);
 }
 
-/// Runs the network of a text by one worker and by sixteen, also with bodies that are asked in place.
 fn shows_by_one_and_sixteen<R: Threads + Wait + Clock + Abort + Sync>(
     rt: &R,
     alloc: Global,
@@ -98,8 +95,7 @@ fn thirty_two_pairs(rt: HostRuntime) {
     shows_large(&rt, rt.alloc(), &PAIRS, &PAIR_LINES, stream);
 }
 
-/// A counter of two hundred, 62 scales by one and a sink of two hundred in a chain, over 63 channels of
-/// capacity one.
+/// A chain over channels of capacity one: a counter of two hundred, 62 scales by one, a sink of two hundred.
 static CHAIN: [Row; 5] = [
     Row {
         from: 0,
@@ -157,7 +153,6 @@ static CHAIN_LINES: [Row; 5] = [
     },
 ];
 
-/// The words from 1 to 200.
 fn two_hundred<R: Abort>(rt: &R, alloc: Global) -> Vec<Token> {
     let mut tokens = Vec::new(alloc);
     for word in 1..=200 {

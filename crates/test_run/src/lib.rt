@@ -1,4 +1,4 @@
-//! Tests of runs by several workers, of monitors that they share, and of what a program of one's own calls.
+//! Tests of runs by several workers, of shared monitors, and of what users' programs call.
 #![tactic(auto)]
 
 #[cfg(test)]

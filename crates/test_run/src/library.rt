@@ -1,4 +1,4 @@
-//! Tests of networks that a program makes, of runs that are watched and stopped, and of runs by a crew.
+//! Tests of built networks, of watched and stopped runs, and of crews.
 mod built;
 mod crews;
 mod side_by_side;

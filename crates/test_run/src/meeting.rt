@@ -19,7 +19,6 @@ use std::thread;
 use std::thread::Threads;
 use test_texts::{COUNTER_INTO_SINK, READY_CHAIN};
 
-/// A network, how many workers run it, its two processes whose closures wait for each other, and when they do.
 #[derive(Clone, Copy)]
 struct Meeting {
     text: &'static str,
@@ -32,9 +31,8 @@ struct Meeting {
 /// At which of its calls a closure waits for the other.
 #[derive(Clone, Copy)]
 pub(crate) enum Times {
-    /// At the call of this number.
     Call(u64),
-    /// At the first three calls, and at each whose number is a multiple of ten thousand.
+    /// At the first three calls, and at each multiple of ten thousand.
     Rarely,
 }
 
@@ -47,7 +45,6 @@ impl Times {
     }
 }
 
-/// Which of the two a closure is, or neither.
 #[derive(Clone, Copy)]
 pub(crate) enum Side {
     Left,
@@ -55,7 +52,7 @@ pub(crate) enum Side {
     Neither,
 }
 
-/// How often each of two closures was called, and how often one has seen that the other had come as far.
+/// How often each closure was called, and how often one saw that the other had come as far.
 #[derive(Drop)]
 pub(crate) struct Calls {
     left: AtomicU64,
@@ -63,8 +60,8 @@ pub(crate) struct Calls {
     seen: AtomicU64,
 }
 
-/// Counts a call, and if it is time waits until the other has come as far. Between two looks other threads may go on.
-/// A wait that is in vain ends with the test, after a minute.
+/// Counts a call and, if it is one of `times`, waits until the other has come as far. It yields between two
+/// looks. If the other never comes, the test times out after a minute.
 pub(crate) fn meet(times: Times, side: Side, calls: &Calls) {
     let (mine, other) = match side {
         Side::Left => (&calls.left, &calls.right),
@@ -93,13 +90,12 @@ impl Calls {
         }
     }
 
-    /// How often one has seen that the other had come as far: twice for each time that they meet.
+    /// Returns how often one saw the other: twice for each meeting.
     pub(crate) fn seen(&self) -> u64 {
         self.seen.load(Ordering::SeqCst)
     }
 }
 
-/// A body that, if it is one of the two, waits for the other at these times.
 fn meeting_body(
     alloc: Global,
     card: Card,
@@ -123,7 +119,6 @@ fn meeting_body(
     Ok(StandardBody::new(card, call))
 }
 
-/// Which of the two the closure of a process is, or neither.
 fn side_of(meeting: Meeting, process: usize) -> Side {
     if process == meeting.left {
         Side::Left
@@ -134,7 +129,6 @@ fn side_of(meeting: Meeting, process: usize) -> Side {
     }
 }
 
-/// A body for each process, in order.
 fn meeting_bodies<R: Abort>(
     rt: &R,
     alloc: Global,
@@ -156,8 +150,7 @@ fn meeting_bodies<R: Abort>(
     bodies
 }
 
-/// Runs a network whose two closures wait for each other. How often they were called decides whether
-/// they wait, and not what they answer.
+/// Runs the network. The counts of calls decide whether the closures wait, not what they answer.
 fn meets<R: Threads + Wait + Clock + Abort + Sync>(
     rt: &R,
     alloc: Global,
@@ -171,7 +164,6 @@ fn meets<R: Threads + Wait + Clock + Abort + Sync>(
     same(rt, "seen", calls.seen(), 2);
 }
 
-/// A counter and its sink, by two workers.
 static COUNTER_MEETS: Meeting = Meeting {
     text: COUNTER_INTO_SINK,
     workers: 2,
@@ -180,8 +172,8 @@ static COUNTER_MEETS: Meeting = Meeting {
     times: Times::Call(1),
 };
 
-/// Five processes, all of which can go on at first, by three workers. The two are next to each other:
-/// in a hand of two they would wait for ever.
+/// Five processes, all enabled at first, and three workers. The two are neighbours: in one hand of two tasks
+/// they would wait for ever.
 static CHAIN_MEETS: Meeting = Meeting {
     text: READY_CHAIN,
     workers: 3,
@@ -190,8 +182,8 @@ static CHAIN_MEETS: Meeting = Meeting {
     times: Times::Call(1),
 };
 
-/// A counter of thirty thousand and its sink, by two workers. At the first calls both are at work; then calls are
-/// quick, so that one does better without the other, which rests; and where the two meet again it must have come back.
+/// A counter of thirty thousand and its sink, with two workers. Both work at the first calls. Then calls are
+/// quick, so one worker does better alone and the other rests. At the next meeting it must have come back.
 static SPARE_MEETS: Meeting = Meeting {
     text: "version = 1
 budget = 100000
@@ -253,7 +245,6 @@ fn two_of_five_processes_meet_at_the_second_call(rt: HostRuntime) {
     );
 }
 
-/// A worker that rests, since the other does better without it, works again once the other waits for it.
 #[test]
 fn a_spare_worker_works_again(rt: HostRuntime) {
     let alloc = rt.alloc();

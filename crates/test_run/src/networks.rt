@@ -1,6 +1,6 @@
-//! Networks of the standard kinds, with bodies that are a card alone.
+//! Networks of the standard kinds, with stateless bodies.
 //!
-//! Their type has no closure in it, as those of `meeting` have, so that the code of a test can name its monitor.
+//! Unlike those of `meeting`, their type contains no closure, so that a test's code can name its monitor.
 use crate::checks::same;
 use kpn_body::Standard;
 use kpn_compute::{CardBody, bodies_of};
@@ -8,7 +8,6 @@ use kpn_net::{Check, Net, NetFault, read_sketch};
 use std::alloc::{AllocError, Global};
 use std::process::Abort;
 
-/// A network, and a body for each of its processes in order.
 #[derive(Drop)]
 pub(crate) struct Parts {
     pub(crate) net: Net<Standard>,
@@ -20,12 +19,11 @@ fn check_text(alloc: Global, text: &str) -> Result<Net<Standard>, NetFault> {
     Net::check(alloc, &sketch)
 }
 
-/// The network of a text.
 pub(crate) fn network<R: Abort>(rt: &R, alloc: Global, text: &str) -> Net<Standard> {
     check_text(alloc, text).expect(rt, "no network")
 }
 
-/// The network of a text, which is refused only if memory is.
+/// Errors: out of memory. Any other fault fails the test.
 fn net_or_refused<R: Abort>(
     rt: &R,
     alloc: Global,
@@ -40,7 +38,7 @@ fn net_or_refused<R: Abort>(
     }
 }
 
-/// The network of a text, with its bodies. Fails if memory was refused.
+/// Errors: out of memory.
 pub(crate) fn parts_or_refused<R: Abort>(
     rt: &R,
     alloc: Global,
@@ -51,7 +49,6 @@ pub(crate) fn parts_or_refused<R: Abort>(
     Ok(Parts { net, bodies })
 }
 
-/// The network of a text, with its bodies.
 pub(crate) fn parts_of<R: Abort>(rt: &R, alloc: Global, text: &str) -> Parts {
     parts_or_refused(rt, alloc, text).expect(rt, "no memory")
 }

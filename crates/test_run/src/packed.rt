@@ -1,4 +1,4 @@
-//! Runs by several workers whose entries are kept in 16 bytes each, against values that were worked out by hand.
+//! Runs by several workers with entries kept in 16 bytes each, against values worked out by hand.
 use crate::checks::same;
 use crate::library::watched::{Witness, counter, often};
 use crate::networks::{Parts, parts_of};
@@ -16,7 +16,6 @@ use std::sync::Wait;
 use std::thread::Threads;
 use test_texts::COUNTER;
 
-/// What a counter to three does, and what the sink does that reads from it.
 static COUNTS: [Deed; 4] = [
     Deed::Put {
         channel: 0,
@@ -49,7 +48,6 @@ static SINKS: [Deed; 4] = [
     Deed::Stopped,
 ];
 
-/// The deeds of a process, in order, as they are recalled.
 fn deeds_of(alloc: Global, kept: &Packed, process: usize) -> Result<Vec<Deed>, AllocError> {
     let mut deeds = Vec::new(alloc);
     for place in 0..kept.count() {
@@ -62,7 +60,7 @@ fn deeds_of(alloc: Global, kept: &Packed, process: usize) -> Result<Vec<Deed>, A
     Ok(deeds)
 }
 
-/// Compares the entries of a counter to three with what its processes do, in whatever order.
+/// Compares each process's deeds; their interleaving is free.
 fn compare_counter<R: Abort>(rt: &R, alloc: Global, kept: &Packed) {
     same(rt, "entries", kept.count(), 8);
     let counted = deeds_of(alloc, kept, 0).expect(rt, "no memory");
@@ -71,7 +69,6 @@ fn compare_counter<R: Abort>(rt: &R, alloc: Global, kept: &Packed) {
     same(rt, "sink", sunk.as_slice(), &SINKS);
 }
 
-/// Runs the network of a text by so many workers, with its entries packed.
 fn run_packed<R: Wait + Clock + Threads + Sync + Abort>(
     rt: &R,
     alloc: Global,
@@ -98,7 +95,6 @@ fn packed_entries_of_workers_are_recalled(rt: HostRuntime) {
     }
 }
 
-/// Runs a counter to three by so many workers beside a witness, with its entries packed.
 fn watch_packed<R: Wait + Clock + Threads + Sync + Abort>(
     rt: &R,
     alloc: Global,

@@ -1,7 +1,7 @@
-//! One request for memory is refused, whichever it is.
+//! One allocation fails, whichever it is.
 //!
-//! Each test passes whichever request is refused, and prints which one was. What can be tried again is
-//! tried again with what was handed back, and succeeds.
+//! Each test passes whichever fails, and prints which one. It retries with what the error returned, which
+//! succeeds.
 use crate::checks::same;
 use crate::due::{Due, RUNNING_SUMS_END, WOVEN_ENDS, compare};
 use crate::runs::{Refusal, finish_of, handed_back};
@@ -19,7 +19,7 @@ use std::test::Fail;
 use std::thread::Threads;
 use test_texts::{COPIED_AND_WOVEN, RUNNING_SUMS};
 
-/// Which request for memory was refused, of those after which the test goes on.
+/// The allocation that failed, if the test can continue.
 #[derive(Clone, Copy, PartialEq, Eq)]
 enum Refused {
     Nothing,
@@ -28,7 +28,7 @@ enum Refused {
     Growth,
     Report,
     Stream,
-    /// One of the test's own requests, for the bodies or the texts.
+    /// One of the test's own, for the bodies or the texts.
     Elsewhere,
 }
 
@@ -46,7 +46,7 @@ impl Refused {
     }
 }
 
-/// Loads a description, and tries again from its beginning if memory was refused.
+/// If out of memory, retries from the beginning of the description.
 fn load_again<R: Abort>(rt: &R, alloc: Global, text: &str) -> (Net<Standard>, Refused) {
     match load_text(alloc, text) {
         Ok(net) => return (net, Refused::Nothing),
@@ -63,7 +63,7 @@ fn load_text(alloc: Global, text: &str) -> Result<Net<Standard>, NetFault> {
     load(alloc, &mut source)
 }
 
-/// Runs a network, and tries again with what was handed back if memory was refused.
+/// If out of memory, retries with what the error returned.
 fn finish_again<B: Body, R: Threads + Wait + Clock + Abort + Sync>(
     rt: &R,
     alloc: Global,
@@ -78,7 +78,6 @@ fn finish_again<B: Body, R: Threads + Wait + Clock + Abort + Sync>(
     }
 }
 
-/// Runs a network with what was handed back when memory was refused.
 fn finish_at_last<B: Body, R: Threads + Wait + Clock + Abort + Sync>(
     rt: &R,
     alloc: Global,
@@ -93,12 +92,10 @@ fn finish_at_last<B: Body, R: Threads + Wait + Clock + Abort + Sync>(
     finish_of(rt, alloc, net, bodies, workers, &Open)
 }
 
-/// A report, unless memory was refused.
 fn report_if_any<K: Kinds>(alloc: Global, finish: &Finish<K>) -> Option<Report> {
     report(alloc, finish).ok()
 }
 
-/// Makes a report, and tries again if memory was refused.
 fn report_again<K: Kinds, R: Abort>(
     rt: &R,
     alloc: Global,
@@ -113,7 +110,6 @@ fn report_again<K: Kinds, R: Abort>(
     }
 }
 
-/// Makes the stream of a channel, and tries again if memory was refused.
 fn stream_again<K: Kinds, R: Abort>(
     rt: &R,
     alloc: Global,
@@ -130,8 +126,7 @@ fn stream_again<K: Kinds, R: Abort>(
     (stream, Refused::Stream)
 }
 
-/// Compares a run whose growth was refused its memory: it ended there, with a history that contradicts
-/// no other run of the network, and without a detail.
+/// The run ended before its growth, and its report has no detail.
 fn ends_for_memory<K: Kinds, R: Abort>(
     rt: &R,
     alloc: Global,
@@ -160,7 +155,6 @@ fn growths_in(history: &[Entry]) -> usize {
     growths
 }
 
-/// The first of these that was refused.
 fn first_refused(all: &[Refused]) -> Refused {
     for refused in all {
         if *refused != Refused::Nothing {
@@ -170,7 +164,7 @@ fn first_refused(all: &[Refused]) -> Refused {
     Refused::Nothing
 }
 
-/// The report and a stream of a run that wasn't refused a growth.
+/// The run got memory for its growths.
 fn tell_again<K: Kinds, R: Abort>(
     rt: &R,
     alloc: Global,
@@ -183,7 +177,6 @@ fn tell_again<K: Kinds, R: Abort>(
     Ok(first_refused(&[report, stream]))
 }
 
-/// The report of such a run.
 fn tell_report<K: Kinds, R: Abort>(
     rt: &R,
     alloc: Global,
@@ -196,7 +189,6 @@ fn tell_report<K: Kinds, R: Abort>(
     refused
 }
 
-/// The stream of such a run.
 fn tell_stream<K: Kinds, R: Abort>(
     rt: &R,
     alloc: Global,
@@ -209,8 +201,7 @@ fn tell_stream<K: Kinds, R: Abort>(
     refused
 }
 
-/// Loads and runs a network, with its report and a stream. Fails if memory for the test itself was
-/// refused.
+/// Errors: out of memory for the test itself.
 fn run_refused<R: Threads + Wait + Clock + Abort + Sync>(
     rt: &R,
     alloc: Global,
@@ -226,7 +217,7 @@ fn run_refused<R: Threads + Wait + Clock + Abort + Sync>(
     told
 }
 
-/// Tells of a run before which this was refused.
+/// `before` is what failed before the end of the run.
 fn tell_refused<K: Kinds, R: Abort>(
     rt: &R,
     alloc: Global,
@@ -242,7 +233,6 @@ fn tell_refused<K: Kinds, R: Abort>(
     Ok(first_refused(&[before, told]))
 }
 
-/// The word for what was refused.
 fn told(refused: Result<Refused, AllocError>) -> &'static str {
     refused.unwrap_or(Refused::Elsewhere).word()
 }

@@ -1,4 +1,4 @@
-//! What a run tells: its report, part by part, and its streams.
+//! A run's report, part by part, and its streams.
 use crate::checks::same;
 use crate::runs::finish_text;
 use kpn_machine::End;
@@ -11,16 +11,14 @@ use std::alloc::Global;
 use std::process::Abort;
 use test_texts::COUNTER_INTO_SINK;
 
-/// What went through the channel.
 static TOKENS: [Token; 3] = [Token::Word(1), Token::Word(2), Token::Word(3)];
 
-/// Compares the tokens of a channel that the network doesn't have.
+/// The network doesn't have channel 1.
 fn compare_no_stream<K: Kinds, R: Abort>(rt: &R, alloc: Global, finish: &Finish<K>) {
     let none = stream_of(alloc, finish.net(), finish.history(), 1).expect(rt, "no memory");
     same(rt, "no stream", none.len(), 0);
 }
 
-/// Compares the lists of a detail.
 fn compare_lists<R: Abort>(rt: &R, detail: &Detail) {
     let places: &Places = &detail.places;
     let steps: &Steps = &detail.steps;
@@ -34,7 +32,6 @@ fn compare_lists<R: Abort>(rt: &R, detail: &Detail) {
     same(rt, "others", Place::Reads(0) == Place::Writes(0), false);
 }
 
-/// The only one of some streams.
 fn only<'a, R: Abort>(rt: &R, streams: &'a Streams) -> &'a Stream {
     match streams.as_slice() {
         [stream] => stream,
@@ -42,7 +39,6 @@ fn only<'a, R: Abort>(rt: &R, streams: &'a Streams) -> &'a Stream {
     }
 }
 
-/// Compares the report of a run.
 fn compare_report<K: Kinds, R: Abort>(rt: &R, alloc: Global, finish: &Finish<K>) {
     let Report { end, detail } = report(alloc, finish).expect(rt, "no memory");
     let detail = detail.as_ref().expect(rt, "no detail");
@@ -51,7 +47,6 @@ fn compare_report<K: Kinds, R: Abort>(rt: &R, alloc: Global, finish: &Finish<K>)
     compare_streams(rt, &detail.streams, &detail.rests);
 }
 
-/// Compares what went through the channel, and what is left in it.
 fn compare_streams<R: Abort>(rt: &R, streams: &Streams, rests: &Streams) {
     same(rt, "put", only(rt, streams).as_slice(), TOKENS.as_slice());
     same(rt, "left", only(rt, rests).as_slice().len(), 0);

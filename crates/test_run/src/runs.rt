@@ -1,4 +1,4 @@
-//! Runs by several workers, against values that were worked out by hand.
+//! Runs by several workers, against values worked out by hand.
 use crate::checks::same;
 use crate::due::{
     COUNTER_ENDS, Due, RUNNING_SUMS_END, SMALL_SINK_ENDS, TWO_FULL_END, WOVEN_ENDS, compare,
@@ -18,7 +18,7 @@ use test_texts::{
     COPIED_AND_WOVEN, COUNTER_INTO_SINK, COUNTER_INTO_SMALL_SINK, RUNNING_SUMS, TWO_FULL_CHANNELS,
 };
 
-/// A gate that counts how often it is asked, which is once for each answer.
+/// Counts how often the gate is asked: once for each answer.
 #[derive(Drop)]
 pub(crate) struct Counts {
     pub(crate) asked: AtomicU64,
@@ -30,7 +30,6 @@ impl Gate for Counts {
     }
 }
 
-/// Why a run was refused.
 #[derive(Clone, Copy, Debug, PartialEq, Eq)]
 pub(crate) enum Refusal {
     Workers,
@@ -38,7 +37,7 @@ pub(crate) enum Refusal {
     Memory,
 }
 
-/// What a run that was refused hands back; no answer may have been lost.
+/// No answer may be lost.
 pub(crate) fn handed_back<B: Body, R: Abort>(
     rt: &R,
     fault: RunFault<B>,
@@ -51,7 +50,6 @@ pub(crate) fn handed_back<B: Body, R: Abort>(
     }
 }
 
-/// Runs a network, which may not be refused.
 pub(crate) fn finish_of<B: Body, R: Threads + Wait + Clock + Abort + Sync, G: Gate>(
     rt: &R,
     alloc: Global,
@@ -66,7 +64,6 @@ pub(crate) fn finish_of<B: Body, R: Threads + Wait + Clock + Abort + Sync, G: Ga
     finish
 }
 
-/// Runs the network of a text.
 pub(crate) fn finish_text<R: Threads + Wait + Clock + Abort + Sync, G: Gate>(
     rt: &R,
     alloc: Global,
@@ -78,7 +75,6 @@ pub(crate) fn finish_text<R: Threads + Wait + Clock + Abort + Sync, G: Gate>(
     finish_of(rt, alloc, net, bodies, workers, gate)
 }
 
-/// Runs the network of a text, and compares the run with its expected result.
 pub(crate) fn shows<R: Threads + Wait + Clock + Abort + Sync, G: Gate>(
     rt: &R,
     alloc: Global,
@@ -92,7 +88,7 @@ pub(crate) fn shows<R: Threads + Wait + Clock + Abort + Sync, G: Gate>(
     drop(finish);
 }
 
-/// A run is refused for this reason, with its number, and all is handed back.
+/// Compares why a run fails, and returns what it returned.
 fn refused<B: Body, R: Threads + Wait + Clock + Abort + Sync>(
     rt: &R,
     alloc: Global,
@@ -111,7 +107,6 @@ fn refused<B: Body, R: Threads + Wait + Clock + Abort + Sync>(
     (net, bodies)
 }
 
-/// Runs a network, and compares the run, and how often its gate was asked, with what is expected.
 fn run_counted<B: Body, R: Threads + Wait + Clock + Abort + Sync>(
     rt: &R,
     alloc: Global,
@@ -129,8 +124,7 @@ fn run_counted<B: Body, R: Threads + Wait + Clock + Abort + Sync>(
     drop(finish);
 }
 
-/// Compares how often a gate was asked with what is expected: at least once for each process, and at most as often
-/// as there are entries and processes.
+/// The gate is asked at least once for each process, and at most once for each entry and process.
 fn compare_asked<R: Abort>(rt: &R, asked: u64, due: &Due) {
     let processes = due.processes as u64;
     let most = due.entries.saturating_add(processes);
@@ -138,8 +132,8 @@ fn compare_asked<R: Abort>(rt: &R, asked: u64, due: &Due) {
     same(rt, "asked", (asked, is_due), (asked, true));
 }
 
-/// Runs a network first with no worker and with 17, then without one of its bodies, all of which is
-/// refused, and at last with `workers` workers and what was handed back.
+/// The run fails with no worker, with 17, and without one of the bodies. Then it succeeds with what came
+/// back.
 pub(crate) fn run_bodies<B: Body, R: Threads + Wait + Clock + Abort + Sync>(
     rt: &R,
     alloc: Global,

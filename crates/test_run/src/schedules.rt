@@ -52,8 +52,7 @@ stream c3 1 2 3 4 5 6 7 8 9
     ],
 };
 
-/// Two workers, with each answer of one process held up until another process has passed, for each
-/// ordered pair of the four processes of Parks's case.
+/// For each ordered pair of processes of Parks's case, each answer of one waits until the other has passed.
 #[test]
 fn each_process_is_held_up_for_each_other(rt: HostRuntime) {
     for process in 0..4 {
@@ -66,20 +65,20 @@ fn each_process_is_held_up_for_each_other(rt: HostRuntime) {
     }
 }
 
-/// A gate that holds process 0 up until process 1 has passed, and has process 1 pass late: after process 0
-/// has come, and after a million pauses more. So without the hold process 0 would go on before process 1.
+/// Holds process 0 until process 1 has passed, and makes process 1 late: it passes a million pauses after
+/// process 0 came. So without the hold process 0 would pass first.
 #[derive(Drop)]
 struct LateGate {
     hold: Hold,
     held_came: AtomicU64,
     other_passed: AtomicU64,
-    /// How often process 0 went on, and how often it did so before process 1 had passed.
+    /// How often process 0 passed, and how often it did before process 1.
     went_on: AtomicU64,
     went_early: AtomicU64,
 }
 
 impl LateGate {
-    /// Waits until process 0 has come, or for so long that a run in one hand ends all the same.
+    /// Waits until process 0 has come, with a bound so that a run in one hand ends too.
     fn wait_for_held(&self) {
         for _look in 0..100_000_000u32 {
             if self.held_came.load(Ordering::SeqCst) > 0 {
@@ -89,7 +88,6 @@ impl LateGate {
         }
     }
 
-    /// Lets process 1 pass the hold, late.
     fn pass_late(&self) {
         self.wait_for_held();
         for _pause in 0..1_000_000u32 {
@@ -114,7 +112,6 @@ impl Gate for LateGate {
     }
 }
 
-/// The counter is held up until the sink has passed: none of its four answers goes on before.
 #[test]
 fn a_process_waits_until_the_other_has_passed(rt: HostRuntime) {
     let gate = LateGate {
@@ -129,13 +126,11 @@ fn a_process_waits_until_the_other_has_passed(rt: HostRuntime) {
     same(&rt, "went early", gate.went_early.load(Ordering::SeqCst), 0);
 }
 
-/// No process is held up, with two workers.
 #[test]
 fn two_workers_of_two_processes(rt: HostRuntime) {
     shows(&rt, rt.alloc(), COUNTER_INTO_SINK, 2, &Open, &COUNTER_ENDS);
 }
 
-/// No process is held up, with more workers than there are processes.
 #[test]
 fn sixteen_workers_of_two_processes(rt: HostRuntime) {
     shows(&rt, rt.alloc(), COUNTER_INTO_SINK, 16, &Open, &COUNTER_ENDS);
@@ -146,8 +141,7 @@ fn sixteen_workers_of_parks_case(rt: HostRuntime) {
     shows(&rt, rt.alloc(), COPIED_AND_WOVEN, 16, &Open, &WOVEN_ENDS);
 }
 
-/// Twenty runs of each of two networks whose channels grow: the same bytes each time. A thousand are made
-/// by `tests/repeat_runs_by_workers`.
+/// Twenty runs of each network give the same bytes; `tests/repeat_runs_by_workers` makes a thousand.
 #[test]
 fn twenty_runs_by_sixteen_workers(rt: HostRuntime) {
     for _run in 0..20 {

@@ -1,5 +1,4 @@
-//! Reports and streams of machines that keep their entries in 16 bytes each, counted or not, and of what several workers
-//! leave behind.
+//! Reports and streams of entries kept in 16 bytes each, counted or not, and of runs by several workers.
 use crate::checks::same;
 use crate::networks::{Parts, parts_of};
 use kpn_body::{Body, Standard};
@@ -17,7 +16,6 @@ use std::sync::Wait;
 use std::thread::Threads;
 use test_texts::{COPIED_AND_WOVEN, COUNTER, reports};
 
-/// What a machine leaves behind that was opened with a body for each process, and finished.
 fn finished(alloc: Global, parts: Parts) -> Result<Chronicle<Standard, Tallied>, AllocError> {
     let Parts { net, bodies } = parts;
     let opened = Machine::<CardBody<Standard>, Tallied>::open_with_keeper(alloc, net, bodies);
@@ -28,7 +26,6 @@ fn finished(alloc: Global, parts: Parts) -> Result<Chronicle<Standard, Tallied>,
     Ok(machine.into_chronicle())
 }
 
-/// The text of the report, with the stream of a channel.
 fn text_of<H: Keeper + Entries>(
     alloc: Global,
     chronicle: &Chronicle<Standard, H>,
@@ -44,7 +41,6 @@ fn text_of<H: Keeper + Entries>(
     Ok(Some(text))
 }
 
-/// Runs the network of a text, and compares the report, with the stream of a channel.
 fn shows<R: Abort>(rt: &R, alloc: Global, text: &str, channel: usize, due: &str) {
     let chronicle = finished(alloc, parts_of(rt, alloc, text)).expect(rt, "no memory");
     let told = text_of(alloc, &chronicle, channel).expect(rt, "no memory");
@@ -62,7 +58,6 @@ fn counted_entries_with_a_growth_have_their_report(rt: HostRuntime) {
     shows(&rt, rt.alloc(), COPIED_AND_WOVEN, 3, reports::WOVEN);
 }
 
-/// How many entries a machine makes that keeps them in 16 bytes.
 fn entries_of<B: Body>(
     alloc: Global,
     net: Net<B::Kinds>,
@@ -83,7 +78,6 @@ fn packed_entries_are_counted(rt: HostRuntime) {
     same(&rt, "entries", entries, 8);
 }
 
-/// Appends the text of the report, with the stream of a channel.
 fn say_told(
     alloc: Global,
     chronicle: &Chronicle<Standard>,
@@ -100,7 +94,6 @@ fn say_told(
     sink.push_str(text.as_str())
 }
 
-/// Runs a network by two workers, and appends its report.
 fn tell_by_two<R: Wait + Clock + Threads + Sync>(
     rt: &R,
     alloc: Global,
@@ -124,7 +117,6 @@ fn entries_of_two_workers_have_their_report(rt: HostRuntime) {
     same(&rt, "text", sink.as_str(), reports::WOVEN);
 }
 
-/// Runs the network of a text by so many workers, and compares the report, with the stream of a channel.
 fn shows_by<H: Keeper + Entries + Send, R: Wait + Clock + Threads + Sync + Abort>(
     rt: &R,
     alloc: Global,

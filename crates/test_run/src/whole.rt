@@ -1,4 +1,4 @@
-//! Runs whose whole report is compared, and runs that never end by themselves.
+//! Runs whose whole report is compared, and runs without an end of their own.
 ghost use Rattle.std.specs.Prelude.{◌<◌, length};
 
 use crate::checks::same;
@@ -16,13 +16,11 @@ use std::thread::Threads;
 /// The whole expected result of a run, whatever the schedule.
 #[derive(Clone, Copy)]
 pub(crate) struct Whole<'a> {
-    /// The text of the report, without a stream.
+    /// The report, without a stream.
     pub(crate) text: &'a str,
-    /// Channels, and what is put on each.
     pub(crate) streams: &'a [(usize, &'a [Token])],
 }
 
-/// Runs the network of a text by `workers` workers, and compares its report and its streams.
 pub(crate) fn shows_whole<R: Threads + Wait + Clock + Abort + Sync, G: Gate>(
     rt: &R,
     alloc: Global,
@@ -50,7 +48,7 @@ fn compare_whole<K: Kinds, R: Abort>(rt: &R, alloc: Global, finish: &Finish<K>, 
     }
 }
 
-/// The first ten of Hamming's numbers: the products of twos, threes and fives.
+/// The first ten of Hamming's numbers.
 static FIRST_TEN: [Token; 10] = [
     Word(1),
     Word(2),
@@ -64,7 +62,6 @@ static FIRST_TEN: [Token; 10] = [
     Word(12),
 ];
 
-/// Runs the network of Hamming's numbers by one worker, by four and by sixteen.
 pub(crate) fn shows_endless<R: Threads + Wait + Clock + Abort + Sync>(
     rt: &R,
     alloc: Global,
@@ -75,7 +72,6 @@ pub(crate) fn shows_endless<R: Threads + Wait + Clock + Abort + Sync>(
     }
 }
 
-/// Runs the network of Hamming's numbers until its budget of 1,000 is spent.
 fn spends_budget<R: Threads + Wait + Clock + Abort + Sync>(
     rt: &R,
     alloc: Global,
@@ -88,7 +84,6 @@ fn spends_budget<R: Threads + Wait + Clock + Abort + Sync>(
     drop(finish);
 }
 
-/// The budget of 1,000 is spent, and there is no detail.
 fn compare_endless<K: Kinds, R: Abort>(rt: &R, alloc: Global, finish: &Finish<K>) {
     let entries = finish.history().len();
     let is_spent = 1000 <= entries && entries <= 1002;
@@ -100,7 +95,7 @@ fn compare_endless<K: Kinds, R: Abort>(rt: &R, alloc: Global, finish: &Finish<K>
     same(rt, "no detail", report.detail.is_none(), true);
 }
 
-/// The sink, which reads channel 1, takes the ten numbers, and what is put there begins with them.
+/// The sink, which reads channel 1, takes the ten numbers; the channel's stream begins with them.
 fn compare_taken<K: Kinds, R: Abort>(rt: &R, alloc: Global, finish: &Finish<K>) {
     let taken = taken_from(rt, alloc, finish.history(), 1);
     same(rt, "taken", taken.as_slice(), FIRST_TEN.as_slice());
@@ -110,7 +105,6 @@ fn compare_taken<K: Kinds, R: Abort>(rt: &R, alloc: Global, finish: &Finish<K>) 
     same(rt, "beginning", begins, true);
 }
 
-/// The tokens taken from a channel, in order.
 fn taken_from<R: Abort>(rt: &R, alloc: Global, history: &[Entry], channel: usize) -> Vec<Token> {
     let mut tokens = Vec::new(alloc);
     for entry in history {
@@ -121,7 +115,6 @@ fn taken_from<R: Abort>(rt: &R, alloc: Global, history: &[Entry], channel: usize
     tokens
 }
 
-/// The token that an entry takes from a channel.
 fn token_taken(entry: Entry, channel: usize) -> Option<Token> {
     match entry {
         Entry::Did {

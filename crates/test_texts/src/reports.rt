@@ -1,7 +1,7 @@
-//! The reports that the rules demand of worked networks, worked out by hand. `tests/reports.py` reads
-//! them here, so that the Rust tests and the scripts compare with one table.
+//! Reports of worked networks, worked out by hand from the rules. `tests/reports.py` reads them here, so that
+//! tests and scripts compare with one table.
 
-/// The counter of three into the sink of three, with its stream.
+/// A counter of three into a sink of three, with its stream.
 pub const COUNTER: &str = "end terminated
 process src stopped steps 4
 process snk stopped steps 4
@@ -10,7 +10,7 @@ entries 8
 stream c0 1 2 3
 ";
 
-/// The counter of three into the sink of three, without the stream.
+/// A counter of three into a sink of three, without the stream.
 pub const COUNTER_ALONE: &str = "end terminated
 process src stopped steps 4
 process snk stopped steps 4
@@ -18,7 +18,7 @@ channel c0 put 3 left 0 capacity 1
 entries 8
 ";
 
-/// The counter of three into a sink of four.
+/// A counter of three into a sink of four.
 pub const SINK_OF_FOUR: &str = "end deadlock
 process src stopped steps 4
 process snk reads c0 steps 3
@@ -26,7 +26,7 @@ channel c0 put 3 left 0 capacity 1
 entries 7
 ";
 
-/// The counter of three into a sink of two.
+/// A counter of three into a sink of two.
 pub const SINK_OF_TWO: &str = "end terminated
 process src stopped steps 4
 process snk stopped steps 3
@@ -34,7 +34,7 @@ channel c0 put 3 left 1 capacity 1
 entries 7
 ";
 
-/// The counter of three into a sink of one, whose channel grows.
+/// A counter of three into a sink of one; the channel grows.
 pub const SINK_OF_ONE: &str = "end terminated
 process src stopped steps 4
 process snk stopped steps 2
@@ -43,7 +43,7 @@ grew c0 2
 entries 7
 ";
 
-/// The counter of three into a sink of one, with its stream.
+/// A counter of three into a sink of one, with its stream.
 pub const SINK_OF_ONE_STREAM: &str = "end terminated
 process src stopped steps 4
 process snk stopped steps 2
@@ -62,7 +62,7 @@ entries 2
 stream c0
 ";
 
-/// A counter whose channel is at the ceiling.
+/// A counter with its channel at the ceiling.
 pub const CEILING: &str = "end ceiling
 process src writes c0 steps 65535
 process snk stopped steps 1
@@ -127,7 +127,7 @@ entries 33
 stream c3 1 2 3 1 2 3
 ";
 
-/// Two counters of two into sinks of nothing: their channels grow in turn.
+/// Two counters of two into sinks of nothing: the channels grow in turn.
 pub const TWO_FULL: &str = "end terminated
 process a stopped steps 3
 process b stopped steps 3
@@ -154,7 +154,7 @@ grew c1 3
 entries 13
 ";
 
-/// A full channel whose writer has stopped, and one that grows.
+/// A full channel with a stopped writer, and one that grows.
 pub const WRITER_STOPPED: &str = "end terminated
 process a stopped steps 2
 process b stopped steps 4
@@ -215,7 +215,7 @@ entries 26
 stream c3 1 3 6
 ";
 
-/// A channel that grows up to the higher ceiling at once.
+/// A channel that grows to the higher ceiling at once.
 pub const GREATEST_GROWTH: &str = "end terminated
 process src stopped steps 1000001
 process snk stopped steps 1
@@ -224,7 +224,7 @@ grew c0 1000000
 entries 1000003
 ";
 
-/// A channel that is at the higher ceiling.
+/// A channel at the higher ceiling.
 pub const HIGHER_CEILING: &str = "end ceiling
 process src writes c0 steps 1000000
 process snk stopped steps 1

@@ -15,9 +15,8 @@ use std::rt::Clock;
 use std::sync::Wait;
 use std::thread::Threads;
 
-/// Runs a network of flips by 1 to 16 workers, and writes the report of the run, with the stream of the
-/// channel that `show` names. Returns the exit status, as `execute` does. Fails if memory for the
-/// bodies was refused; nothing is then written.
+/// Runs a network of flips with 1 to 16 workers, and writes its report, with the stream of the channel
+/// `show`. Returns the exit status. Errors: out of memory for the bodies; nothing is written.
 pub(crate) fn run_flips<S: Sink, R: Wait + Clock + Threads + Sync>(
     rt: &R,
     alloc: Global,
@@ -34,8 +33,8 @@ pub(crate) fn run_flips<S: Sink, R: Wait + Clock + Threads + Sync>(
     run_with_cards(rt, alloc, cards.as_slice(), Some(net), workers, show, sink)
 }
 
-/// Runs a network with these cards. The network is passed in an `Option`: with a `Net` held by
-/// value the check finds no proof of a loop that makes closures.
+/// Runs a network with these cards. It comes in an `Option` since, with a `Net` held by value, the check
+/// finds no proof of a loop that makes closures.
 fn run_with_cards<S: Sink, R: Wait + Clock + Threads + Sync>(
     rt: &R,
     alloc: Global,
@@ -68,7 +67,6 @@ fn run_with_cards<S: Sink, R: Wait + Clock + Threads + Sync>(
     Ok(execute(rt, alloc, net, bodies, workers, show, sink))
 }
 
-/// A card of a list of cards that have signatures.
 fn signed_card(cards: &[Card], process: usize) -> Card
     requires signed { All (λ card. IsSome (ports card)) cards.now }
     requires within { process < length cards.now }

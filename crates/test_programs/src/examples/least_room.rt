@@ -1,5 +1,4 @@
-//! The run of Parks's case with a counter of five: its end, its growths and its length, as worked out by
-//! hand.
+//! A run of Parks's case with a counter of five, against an end, growths and a length worked out by hand.
 ghost use Rattle.std.specs.Prelude.{◌≡◌, ◌<◌, All, IfSome, IsSome, Some, length, slice_get};
 ghost use Rattle.kpn_model.specs.Families.{family};
 ghost use Rattle.kpn_standard.specs.Standard.{standard};
@@ -22,12 +21,11 @@ const GROWTHS: &[Entry] = &[
 ];
 
 /// Runs the network, and compares. By hand: the counter fills channel 0 while the copy waits to put its
-/// second token on channel 2, from which the weave reads only after three tokens of channel 1. Channels
-/// 0 and 2 are full, with capacity one each, and channel 0 grows first, having the lesser number; it is
-/// filled, and then channel 2, of capacity one, grows. From then on no process has to wait for room.
-/// The counter puts 5 tokens and stops, the copy takes 5 and puts 10, the weave takes 8 and puts 8, the
-/// sink takes 8 and stops; the copy and the weave then wait for more. With the two growths these are 6
-/// + 15 + 16 + 9 + 2 entries.
+/// second token on channel 2, which the weave reads only after three tokens of channel 1. Channels 0 and 2
+/// are full with capacity one; channel 0 grows first, having the lower number. When it is full, channel 2
+/// grows. From then on no process waits for room. The counter puts 5 tokens and stops, the copy takes 5 and
+/// puts 10, the weave takes 8 and puts 8, the sink takes 8 and stops; the copy and the weave wait for more.
+/// With two growths these are 6 + 15 + 16 + 9 + 2 entries.
 fn compare<R: Abort, B: Body>(rt: &R, alloc: Global, net: Net<B::Kinds>, bodies: Vec<B>)
     requires standard { (family B.Kinds.Kinds) ≡ standard }
     requires network { net ≡ the_case }
@@ -46,7 +44,6 @@ fn compare<R: Abort, B: Body>(rt: &R, alloc: Global, net: Net<B::Kinds>, bodies:
     compare_growths(rt, alloc, entries);
 }
 
-/// Compares the growths of a history.
 fn compare_growths<R: Abort>(rt: &R, alloc: Global, history: &[Entry]) {
     let mut growths = Vec::new(alloc);
     for entry in history {
@@ -57,8 +54,8 @@ fn compare_growths<R: Abort>(rt: &R, alloc: Global, history: &[Entry]) {
     same(rt, "growths", growths.as_slice(), GROWTHS);
 }
 
-/// Makes a body for each card, and compares the run of the network. The network is passed in an
-/// `Option`: with a `Net` held by value the check finds no proof of a loop that makes closures.
+/// Makes the bodies, and compares the run. The network comes in an `Option` since, with a `Net` held by
+/// value, the check finds no proof of a loop that makes closures.
 fn compare_with_bodies<R: Abort>(rt: &R, alloc: Global, cards: &[Card], net: Option<Net<Standard>>)
     requires signed { All (λ card. IsSome (signature card)) cards.now }
     requires network { IfSome net (λ n. n ≡ the_case) }
@@ -84,7 +81,6 @@ fn compare_with_bodies<R: Abort>(rt: &R, alloc: Global, cards: &[Card], net: Opt
     compare(rt, alloc, net, bodies);
 }
 
-/// A card of a list of cards that have signatures.
 fn signed_card(cards: &[Card], process: usize) -> Card
     requires signed { All (λ card. IsSome (signature card)) cards.now }
     requires within { process < length cards.now }

@@ -1,4 +1,4 @@
-//! The lines of flip; a scale by three; and what a counter of three and a sink of three answer first.
+//! Lines of flip, a scale by three, and the first answers of a counter and a sink.
 use crate::checks::same;
 use crate::examples::flips::run_flips;
 use example_own_kinds::{Flips, first_answers, flip_answer, line_of, scale_answer};
@@ -30,12 +30,10 @@ to = \"snk\"
 capacity = 1
 ";
 
-/// What a flip answers.
 fn flipped<R: Abort>(rt: &R, alloc: Global, read: Option<bool>) -> Answer {
     flip_answer(alloc, read).expect(rt, "no memory")
 }
 
-/// Compares what a process answers: its next state, and what it does.
 fn compare_answer<R: Abort>(rt: &R, name: &str, answer: Answer, next: Local, act: Act) {
     let found = answer.next;
     same(rt, name, (found, answer.act), (next, act));
@@ -57,19 +55,16 @@ fn flip_and_scale_follow_their_lines(rt: HostRuntime) {
     compare_answer(&rt, "scale", scaled, start, Write(0, Word(42)));
 }
 
-/// The network of a text.
 fn network<K: Kinds, R: Abort>(rt: &R, alloc: Global, text: &str) -> Net<K> {
     let sketch = read_sketch(alloc, text.as_bytes()).expect(rt, "no sketch");
     Net::check(alloc, &sketch).expect(rt, "no network")
 }
 
-/// What each process of the counter's network answers first.
 fn first_of_each<R: Abort>(rt: &R, alloc: Global) -> Vec<Answer> {
     let net = network(rt, alloc, COUNTER_INTO_SINK);
     first_answers(alloc, &net).expect(rt, "no memory")
 }
 
-/// Compares what a counter and a sink answer first.
 fn compare_first<R: Abort>(rt: &R, answers: &[Answer]) {
     let [source, sink] = answers else {
         panic!(rt; "not two answers");
@@ -98,7 +93,6 @@ to = \"k\"
 sort = \"flags\"
 ";
 
-/// What is written of its run.
 const FLIP_LINES: &str = "end deadlock
 process k reads c0 steps 0
 channel c0 put 0 left 0 capacity 1
@@ -106,7 +100,6 @@ entries 0
 stream c0
 ";
 
-/// Runs the loop by two workers, and compares the exit status and what is written.
 fn compare_loop<R: Threads + Wait + Clock + Abort + Sync>(
     rt: &R,
     alloc: Global,

@@ -7,13 +7,11 @@ use kpn_execute::{Choice, WordsFault, read_words};
 use std::alloc::{AllocError, Global};
 use std::process::Abort;
 
-/// What the arguments ask for, as a text.
 fn asked_for<R: Abort>(rt: &R, alloc: Global, words: &[&str]) -> String {
     let read = read_words(alloc, words);
     read_text(alloc, &read).expect(rt, "no memory")
 }
 
-/// What was read of the arguments, as a text.
 fn read_text(alloc: Global, read: &Result<Choice<'_>, WordsFault>) -> Result<String, AllocError> {
     match read {
         Ok(Choice::Check) => String::from_str(alloc, "check"),
@@ -22,14 +20,13 @@ fn read_text(alloc: Global, read: &Result<Choice<'_>, WordsFault>) -> Result<Str
     }
 }
 
-/// The exit status, and whether it is because of the number of workers.
 fn refused_text(alloc: Global, fault: &WordsFault) -> Result<String, AllocError> {
     let is_of_workers = matches!(fault, WordsFault::Workers);
     format!(in alloc; "{} {is_of_workers}", fault.status().code())
 }
 
-/// Command lines, and what they ask for: a check; a run by a number of workers that shows a channel; or
-/// nothing, with the exit status and whether it is because of the number of workers.
+/// Command lines with what they ask for: `check`; the number of workers and the channel to show (`-` for
+/// none); or the exit status and whether the number of workers is at fault.
 static WORDS: [(&str, &str); 24] = [
     ("kpn check", "check"),
     ("kpn run", "1 -"),
@@ -57,7 +54,6 @@ static WORDS: [(&str, &str); 24] = [
     ("kpn --version", "0 false"),
 ];
 
-/// Compares what a command line asks for.
 fn compare_words<R: Abort>(rt: &R, alloc: Global, line: &str, answer: &str) {
     let words: Vec<&str> = line.split(' ').collect(alloc).expect(rt, "no memory");
     let found = asked_for(rt, alloc, words.as_slice());
@@ -80,15 +76,13 @@ fn says_how_many_workers(rt: HostRuntime) {
     same(&rt, "line", text.as_str().starts_with(line), true);
 }
 
-/// If memory is refused, that is the fault, and nothing else changes: to be run with each allocation
-/// failing in turn.
+/// For runs with each allocation failing in turn: the only other outcome is out of memory.
 #[test]
 fn tells_refused_memory_of_arguments(rt: HostRuntime) {
     let read = read_words(rt.alloc(), ["kpn", "run", "--show", "c0"].as_slice());
     same(&rt, "answer", shows_c0_or_is_refused(&read), true);
 }
 
-/// Whether the run is asked for, or memory was refused.
 fn shows_c0_or_is_refused(read: &Result<Choice<'_>, WordsFault>) -> bool {
     match read {
         Ok(Choice::Run { workers, show }) => *workers == 1 && *show == Some("c0"),
@@ -97,13 +91,11 @@ fn shows_c0_or_is_refused(read: &Result<Choice<'_>, WordsFault>) -> bool {
     }
 }
 
-/// The command line `music play [TUNE]`, made step by step.
 fn music_command<'a>(alloc: Global) -> Result<Command<'a>, AllocError> {
     let play = with_arg(Ok(Command::new(alloc, "play")), Arg::new(alloc, "tune"));
     with_subcommand(Ok(Command::new(alloc, "music")), play)
 }
 
-/// The subcommand that was found, and the tune.
 fn played<'a>(matches: &ArgMatches<'a>) -> Option<(&'a str, Option<&'a str>)> {
     let (name, entries) = matches.subcommand()?;
     Some((name, entries.get_str("tune")))

@@ -1,4 +1,4 @@
-//! Texts with their results, from outside; and what no clause says.
+//! Texts with results from outside, and what no clause says.
 ghost use Rattle.std.specs.Prelude.{◌≡◌, ◌<◌, ◌+◌, ◌^◌, ◌==◌, ◌&&◌, nat_lt, if◌then◌else◌, codes, [], ◌∷◌, Option, Some, None, slice_index};
 ghost use Rattle.std.specs.Str.{bytes_eq};
 
@@ -12,8 +12,8 @@ use std::io;
 use std::io::{Read, Write};
 use std::process::Abort;
 
-/// A counter and a sink, with their names, arguments and ports. What they do doesn't matter here: each
-/// stops at once.
+/// A counter and a sink with their names, arguments and ports. Each stops at once: their answers don't matter
+/// here.
 struct CountAndSink;
 
 impl Kinds for CountAndSink {
@@ -65,7 +65,6 @@ impl Kinds for CountAndSink {
     fn lawful() {}
 }
 
-/// A counter of three into a sink of three.
 const COUNTER: &str = "version = 1
 
 [[process]]
@@ -85,13 +84,12 @@ to = \"snk\"
 capacity = 1
 ";
 
-/// The number of the fault of a text, or 0 if it is accepted.
+/// Returns 0 if there is no fault.
 fn number_of(alloc: Global, text: &[u8]) -> u8 {
     let mut source = text;
     number_from(alloc, &mut source)
 }
 
-/// The number of the fault of what a source gives, or 0 if it is accepted.
 fn number_from<S: Source>(alloc: Global, source: &mut S) -> u8 {
     let net: Result<Net<CountAndSink>, NetFault> = load(alloc, source);
     match net {
@@ -100,12 +98,11 @@ fn number_from<S: Source>(alloc: Global, source: &mut S) -> u8 {
     }
 }
 
-/// A text in which a part is replaced.
 fn edited<R: Abort>(rt: &R, alloc: Global, text: &str, old: &str, new: &str) -> String {
     text.replace(alloc, old, new).expect(rt, "no memory")
 }
 
-/// Edits of the counter's text: a part, what takes its place, and the number of the fault.
+/// Edits of the counter's text: the old part, the new part, and the number of the fault.
 static EDITS: [(&str, &str, u8); 41] = [
     ("", "", 0),
     ("\ncapacity = 1\n", "", 0),
@@ -162,7 +159,6 @@ static EDITS: [(&str, &str, u8); 41] = [
     ("version = 1", "version = 1\nbudget = -1", 13),
 ];
 
-/// Compares the number of the fault of the counter's text with an edit.
 fn compare_edit<R: Abort>(rt: &R, alloc: Global, old: &str, new: &str, number: u8) {
     let text = edited(rt, alloc, COUNTER, old, new);
     let found = number_of(alloc, text.as_bytes());
@@ -176,7 +172,7 @@ fn refuses_edits_by_number(rt: HostRuntime) {
     }
 }
 
-/// Pairs of such edits, with the number of the fault of the one, of the other and of both.
+/// Two edits, with the number of the fault of the first, of the second and of both.
 type Pair = (
     &'static str,
     &'static str,
@@ -247,7 +243,6 @@ static PAIRS: [Pair; 11] = [
     ),
 ];
 
-/// Compares the numbers of the faults of the counter's text with one edit, with the other and with both.
 fn compare_pair<R: Abort>(rt: &R, alloc: Global, pair: &Pair) {
     let (old, new, other, instead, numbers) = *pair;
     let one = edited(rt, alloc, COUNTER, old, new);
@@ -268,14 +263,12 @@ fn finds_the_fault_of_least_number(rt: HostRuntime) {
     }
 }
 
-/// Whole texts, each with the number of its fault.
 static TEXTS: [(&str, u8); 3] = [
     ("", 2),
     ("version = 1\nprocess = []\n", 4),
     ("version = 1\n[[process]]\nname = \"sr", 1),
 ];
 
-/// A text of 1000 brackets that are open.
 fn open_brackets<R: Abort>(rt: &R, alloc: Global) -> String {
     let brackets = "[".repeat(alloc, 1000).expect(rt, "no memory");
     format!(in alloc; "version = {brackets}").expect(rt, "no memory")
@@ -292,7 +285,7 @@ fn refuses_texts_by_number(rt: HostRuntime) {
     same(&rt, "brackets", number_of(alloc, brackets.as_bytes()), 1);
 }
 
-/// The text of a network of `sinks` sinks, and `channels` channels from the first sink to itself.
+/// A network of `sinks` sinks, and `channels` channels from the first sink to itself.
 fn text_of<R: Abort>(rt: &R, alloc: Global, sinks: u16, channels: u16) -> String {
     let mut text = String::from_str(alloc, "version = 1\n").expect(rt, "no memory");
     for i in 0..sinks {
@@ -318,8 +311,7 @@ fn push_channel(text: &mut String, i: u16) -> Result<(), AllocError> {
     )
 }
 
-/// Numbers of processes and of channels on both sides of the limits. If they are within the limits, the
-/// faults of the ports come.
+/// Numbers of processes and channels around the limits. Within the limits the ports are at fault.
 static COUNTS: [(u16, u16, u8); 5] = [
     (1, 0, 10),
     (64, 0, 10),
@@ -328,7 +320,6 @@ static COUNTS: [(u16, u16, u8); 5] = [
     (1, 257, 4),
 ];
 
-/// Compares the number of the fault of a text with so many sinks and channels.
 fn compare_count<R: Abort>(rt: &R, alloc: Global, sinks: u16, channels: u16, number: u8) {
     let text = text_of(rt, alloc, sinks, channels);
     let found = number_of(alloc, text.as_bytes());
@@ -347,14 +338,13 @@ fn counts_processes_and_channels(rt: HostRuntime) {
     }
 }
 
-/// The counter's text, filled up to `length` bytes with line feeds at its end.
+/// Adds line feeds up to `length` bytes.
 fn filled<R: Abort>(rt: &R, alloc: Global, length: usize) -> String {
     let filling = "\n".repeat(alloc, length.saturating_sub(COUNTER.len()));
     let filling = filling.expect(rt, "no memory");
     format!(in alloc; "{COUNTER}{filling}").expect(rt, "no memory")
 }
 
-/// Compares the number of the fault of the counter's text, filled up to this length.
 fn compare_filled<R: Abort>(rt: &R, alloc: Global, length: usize, number: u8) {
     let text = filled(rt, alloc, length);
     let found = (text.len(), number_of(alloc, text.as_bytes()));
@@ -367,7 +357,7 @@ fn reads_up_to_a_limit(rt: HostRuntime) {
     compare_filled(&rt, rt.alloc(), 1048577, 15);
 }
 
-/// Compares whether each beginning of a text is refused: each that lacks more than the last byte is.
+/// Each beginning of a text fails, except the one that lacks only the last byte.
 fn compare_beginnings<R: Abort>(rt: &R, alloc: Global, bytes: &[u8]) {
     for n in 0..bytes.len() {
         let is_refused = number_of(alloc, &bytes[..n]) != 0;
@@ -382,7 +372,8 @@ fn refuses_every_beginning(rt: HostRuntime) {
     compare_beginnings(&rt, rt.alloc(), whole.as_bytes());
 }
 
-/// Gives or takes one byte a call, and fails after a number of calls: from then on, or just once.
+/// Reads or writes one byte a call, and fails after `before` calls. A read fails once if `fails_once`;
+/// otherwise every later call fails.
 #[derive(Drop)]
 struct Failing<'a> {
     bytes: &'a [u8],
@@ -422,7 +413,7 @@ impl<'a> Write for Failing<'a> {
     }
 }
 
-/// After how many calls reading the counter's text fails, and the number of the fault.
+/// How many calls succeed before reading the counter's text fails, and the number of the fault.
 static READS: [(usize, u8); 4] = [
     (0, 15),
     (10, 15),
@@ -430,10 +421,9 @@ static READS: [(usize, u8); 4] = [
     (COUNTER.len() + 1, 0),
 ];
 
-/// After how many calls writing the line of a refusal fails, and the exit status.
+/// How many calls succeed before writing the line of a fault fails, and the exit status.
 static WRITES: [(usize, u8); 3] = [(0, 7), (10, 7), (11, 4)];
 
-/// Compares the number of the fault of the counter's text, read by a source that fails.
 fn compare_read<R: Abort>(rt: &R, alloc: Global, before: usize, fails_once: bool, number: u8) {
     let mut source = Fallible::new(Failing {
         bytes: COUNTER.as_bytes(),
@@ -444,7 +434,6 @@ fn compare_read<R: Abort>(rt: &R, alloc: Global, before: usize, fails_once: bool
     same(rt, "read", (before, found), (before, number));
 }
 
-/// Compares the exit status after a refusal is written to a sink that fails.
 fn compare_write<R: Abort>(rt: &R, before: usize, status: u8) {
     let mut sink = Fallible::new(Failing {
         bytes: b"",
@@ -482,10 +471,8 @@ fn statuses_have_numbers(rt: HostRuntime) {
     same(&rt, "codes", codes, [0, 1, 2, 3, 4, 5, 6, 7, 8]);
 }
 
-/// What is written of a checked network, of two faults and of a lost answer.
 const LINES: &str = "ok 2 processes 1 channels\nrefused 14\nrefused 9\nlost\n";
 
-/// Writes each line, and compares the exit statuses and the lines.
 fn compare_lines<R: Abort>(rt: &R, net: &Net<CountAndSink>, out: &mut Vec<u8>) {
     let codes = [
         say_checked(net, out),
@@ -509,15 +496,13 @@ fn writes_lines(rt: HostRuntime) {
     compare_lines(&rt, &net, &mut out);
 }
 
-/// If memory is refused, that is the fault, and nothing else changes: to be run with each allocation
-/// failing in turn.
+/// For runs with each allocation failing in turn: the only other outcome is out of memory (14).
 #[test]
 fn answers_refused_memory_by_its_fault(rt: HostRuntime) {
     let number = number_of(rt.alloc(), COUNTER.as_bytes());
     assert!(rt; number == 0 || number == 14, "{number}");
 }
 
-/// Compares what is handed back of a text whose counts are wrong.
 fn compare_refused<R: Abort>(rt: &R, alloc: Global, text: &[u8]) {
     let mut source = text;
     let loaded: Result<Net<CountAndSink>, Refused> = load_or_refuse(alloc, &mut source);

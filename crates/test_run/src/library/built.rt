@@ -1,4 +1,4 @@
-//! Networks that are built, and sketches as texts.
+//! Built networks, and sketches as texts.
 use crate::checks::same;
 use kpn_builder::{Builder, NewChannel, TextFault, sketch_message, to_toml};
 use kpn_net::{Check, Net, NetFault, Sort, Token, TokenSketch, read_sketch};
@@ -6,10 +6,9 @@ use kpn_standard::Standard;
 use std::alloc::Global;
 use std::process::Abort;
 
-/// The kinds that a message lists.
 const KINDS: &str = "count and sink";
 
-/// A text that was written by hand, with each key in the order of its bytes.
+/// Written by hand, with each table's keys in byte order.
 const SWITCHED: &str = r#"budget = 77
 step = 2
 version = 2
@@ -71,7 +70,6 @@ fn add_channels<R: Abort>(rt: &R, made: &mut Builder) {
     made.channel(asked).expect(rt, "memory");
 }
 
-/// What was built is written as it would be by hand.
 #[test]
 fn what_was_built_is_written(rt: HostRuntime) {
     let alloc = rt.alloc();
@@ -81,7 +79,6 @@ fn what_was_built_is_written(rt: HostRuntime) {
     drop(made);
 }
 
-/// A text is read, and written as it was.
 #[test]
 fn what_was_read_is_written(rt: HostRuntime) {
     let alloc = rt.alloc();
@@ -92,7 +89,6 @@ fn what_was_read_is_written(rt: HostRuntime) {
     drop(sketch);
 }
 
-/// The faults of what was built are told by the caller's names.
 #[test]
 fn faults_are_told_by_name(rt: HostRuntime) {
     let alloc = rt.alloc();
@@ -113,7 +109,6 @@ fn faults_are_told_by_name(rt: HostRuntime) {
     drop(made);
 }
 
-/// Adds a counter of three, a sink for them, and their channel.
 fn add_counter<R: Abort>(rt: &R, made: &mut Builder) {
     made.process("src", "count", &[1, 3]).expect(rt, "memory");
     made.process("snk", "sink", &[3]).expect(rt, "memory");
@@ -121,7 +116,6 @@ fn add_counter<R: Abort>(rt: &R, made: &mut Builder) {
     made.channel(wire).expect(rt, "memory");
 }
 
-/// Compares what was built of the counter.
 fn compare_network<R: Abort>(rt: &R, net: &Net<Standard>) {
     same(rt, "processes", net.processes(), 2);
     same(rt, "budget", net.budget(), 10_000);
@@ -133,7 +127,6 @@ fn compare_network<R: Abort>(rt: &R, net: &Net<Standard>) {
     }
 }
 
-/// A network that is built is that of the text.
 #[test]
 fn what_was_built_is_a_network(rt: HostRuntime) {
     let mut made = Builder::new(rt.alloc());
@@ -144,7 +137,7 @@ fn what_was_built_is_a_network(rt: HostRuntime) {
     drop(made);
 }
 
-/// Adds a process of this kind, a sink, and a channel between them that holds the greatest word at first.
+/// Adds a process of this kind and a sink, with the greatest word between them as start token.
 fn add_held<R: Abort>(rt: &R, made: &mut Builder, kind: &str) {
     made.process("src", kind, &[1, 3]).expect(rt, "memory");
     made.process("snk", "sink", &[3]).expect(rt, "memory");
@@ -153,7 +146,7 @@ fn add_held<R: Abort>(rt: &R, made: &mut Builder, kind: &str) {
     made.channel(wire).expect(rt, "memory");
 }
 
-/// What is wrong beside a word that no text says is told by the caller's names.
+/// Messages name other faults of a sketch with a word that no text can give.
 #[test]
 fn faults_beside_such_words_are_told(rt: HostRuntime) {
     let mut made = Builder::new(rt.alloc());
@@ -164,7 +157,7 @@ fn faults_beside_such_words_are_told(rt: HostRuntime) {
     drop(made);
 }
 
-/// A word that is given by its value is held at first, and no text says it.
+/// A start token given as a `Word` may have a value that no text can give.
 #[test]
 fn words_by_their_value_are_held(rt: HostRuntime) {
     let mut made = Builder::new(rt.alloc());

@@ -17,7 +17,7 @@ use std::sync::atomic::{AtomicU64, Ordering};
 use std::sync::ledger::Ledger;
 use std::thread::Threads;
 
-/// Works with each seat to the end, and counts the seats that met it.
+/// Counts the seats that reach the end.
 #[derive(Drop)]
 struct All<'a, R> {
     rt: &'a R,
@@ -46,7 +46,6 @@ impl<'a, R: Wait + Sync> Crew<CardBody<Standard>> for All<'a, R> {
     }
 }
 
-/// Looks at one run of a counter to three by a crew with this many seats.
 fn shows_crew<R: Threads + Wait + Clock + Sync + Abort>(rt: &R, alloc: Global, seats: u16) {
     let net = counter(rt, alloc, 3);
     let bodies: Vec<CardBody<Standard>> = bodies_of(alloc, &net).expect(rt, "memory");
@@ -88,8 +87,7 @@ impl<'a, R: Wait + Sync> Crew<CardBody<Standard>> for Leaving<'a, R> {
     }
 }
 
-/// A crew that leaves after the counter's first word leaves a history of one entry; one without a seat leaves
-/// an empty one.
+/// One seat leaves a history of one entry, no seat an empty one.
 #[test]
 fn a_crew_leaves_before_the_end(rt: HostRuntime) {
     for seats in [0, 1] {
@@ -97,7 +95,6 @@ fn a_crew_leaves_before_the_end(rt: HostRuntime) {
     }
 }
 
-/// Looks at one run of a counter to three by a crew with this many seats, which leaves after one commit each.
 fn shows_leaving<R: Threads + Wait + Clock + Sync + Abort>(rt: &R, alloc: Global, seats: u16) {
     let net = counter(rt, alloc, 3);
     let bodies = bodies_of(alloc, &net).expect(rt, "memory");
@@ -110,7 +107,6 @@ fn shows_leaving<R: Threads + Wait + Clock + Sync + Abort>(rt: &R, alloc: Global
     drop(run);
 }
 
-/// Bodies that don't fit come back, and no crew is asked.
 #[test]
 fn a_crew_without_bodies_is_refused(rt: HostRuntime) {
     let alloc = rt.alloc();

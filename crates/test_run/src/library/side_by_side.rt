@@ -16,7 +16,7 @@ use std::sync::ledger::Ledger;
 use std::sync::{Arc, Wait};
 use std::thread::Threads;
 
-/// The counter's body or the sink's, which wait for each other at their first calls.
+/// The counter's body or the sink's; each waits for the other at its first call.
 #[derive(Drop)]
 struct Meeter {
     card: Card,
@@ -51,7 +51,6 @@ impl Body for Meeter {
     }
 }
 
-/// The bodies of a counter and its sink, in order.
 fn meeters<R: Abort>(
     rt: &R,
     alloc: Global,
@@ -84,7 +83,6 @@ fn push_meeter<R: Abort>(
     }
 }
 
-/// Runs a counter to three with this many workers, beside an observer.
 fn watched<R: Wait + Clock + Threads + Sync + Abort>(
     rt: &R,
     alloc: Global,
@@ -101,7 +99,6 @@ fn watched<R: Wait + Clock + Threads + Sync + Abort>(
     run
 }
 
-/// Works with each seat to the end.
 #[derive(Drop)]
 struct ToTheEnd<'a, R> {
     rt: &'a R,
@@ -117,7 +114,6 @@ impl<'a, R: Wait + Sync> Crew<Meeter> for ToTheEnd<'a, R> {
     }
 }
 
-/// Runs a counter to three by a crew with this many seats.
 fn crewed<R: Wait + Threads + Sync + Abort>(
     rt: &R,
     alloc: Global,

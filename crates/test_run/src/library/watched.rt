@@ -1,4 +1,4 @@
-//! Runs that are watched, and runs that are stopped.
+//! Watched runs and stopped runs.
 use crate::checks::same;
 use kpn_body::{Body, answer};
 use kpn_builder::{Builder, NewChannel};
@@ -21,7 +21,6 @@ use std::sync::atomic::{AtomicBool, AtomicU64, Ordering};
 use std::thread::Threads;
 use std::time::Duration;
 
-/// The report of a counter to three and its sink.
 const COUNTED: &str = "end terminated
 process src stopped steps 4
 process snk stopped steps 4
@@ -34,8 +33,8 @@ pub(crate) fn often() -> Duration {
     Duration::from_millis(1)
 }
 
-/// Keeps what it was shown: how often it was asked, the entries of the last time, and whether the run
-/// had ended then; stops once it has seen so many entries.
+/// Counts how often it is asked, keeps the last number of entries and whether the run had ended, and stops a
+/// run that has `stops_at` entries.
 #[derive(Drop)]
 pub(crate) struct Witness {
     stops_at: u64,
@@ -70,7 +69,6 @@ impl Observer for Witness {
     }
 }
 
-/// A counter of so many numbers, and a sink for them.
 pub(crate) fn counter<R: Abort>(rt: &R, alloc: Global, numbers: i64) -> Net<Standard> {
     let mut made = Builder::new(alloc);
     made.set_budget(2_000_000);
@@ -88,7 +86,6 @@ fn add_counter<R: Abort>(rt: &R, made: &mut Builder, numbers: i64) {
     made.channel(wire).expect(rt, "memory");
 }
 
-/// Runs a counter to three with this many workers, beside a witness.
 fn watch<R: Wait + Clock + Threads + Sync + Abort>(
     rt: &R,
     alloc: Global,
@@ -100,7 +97,6 @@ fn watch<R: Wait + Clock + Threads + Sync + Abort>(
     run_watched(rt, alloc, net, bodies, workers, &Open, often(), witness)
 }
 
-/// Looks at one watched run of a counter to three: both processes write or read thrice and stop.
 fn shows_counter<R: Wait + Clock + Threads + Sync + Abort>(rt: &R, alloc: Global, workers: usize) {
     let witness = Witness::new(u64::MAX);
     let Ok(run) = watch(rt, alloc, workers, &witness) else {
@@ -112,7 +108,6 @@ fn shows_counter<R: Wait + Clock + Threads + Sync + Abort>(rt: &R, alloc: Global
     drop(run);
 }
 
-/// Compares the end, the numbers and the stream of a run of a counter to three.
 pub(crate) fn compare_counter<R: Abort>(rt: &R, alloc: Global, run: &WatchedRun<Standard>) {
     same(rt, "end", run.end(), Some(End::Terminated));
     same(rt, "entries", run.history().len(), 8);
@@ -122,7 +117,6 @@ pub(crate) fn compare_counter<R: Abort>(rt: &R, alloc: Global, run: &WatchedRun<
     same(rt, "stream", stream.as_slice(), &due);
 }
 
-/// Compares what an observer of such a run was shown.
 fn compare_shown<R: Abort>(rt: &R, witness: &Witness) {
     same(rt, "shown", witness.entries.load(Ordering::SeqCst), 8);
     same(rt, "shown end", witness.ended.load(Ordering::SeqCst), true);
@@ -130,7 +124,7 @@ fn compare_shown<R: Abort>(rt: &R, witness: &Witness) {
     same(rt, "asked", asked >= 2, true);
 }
 
-/// The report of a watched run is what docs/format.md says of this counter.
+/// Compares the report with the one that docs/format.md gives for this counter.
 pub(crate) fn tells_counter<R: Abort>(rt: &R, alloc: Global, run: &WatchedRun<Standard>) {
     let report = chronicle_report(alloc, run.chronicle()).expect(rt, "memory");
     let report = report.expect(rt, "no report");
@@ -148,7 +142,6 @@ fn a_watched_run_comes_to_its_end(rt: HostRuntime) {
     }
 }
 
-/// A run that is stopped before its start hands all back.
 #[test]
 fn nothing_runs_if_the_observer_stops_at_once(rt: HostRuntime) {
     let witness = Witness::new(0);
@@ -162,7 +155,6 @@ fn nothing_runs_if_the_observer_stops_at_once(rt: HostRuntime) {
     drop(net);
 }
 
-/// A number of workers that is too great is refused before the observer is asked.
 #[test]
 fn seventeen_workers_are_refused(rt: HostRuntime) {
     let witness = Witness::new(0);
@@ -174,7 +166,6 @@ fn seventeen_workers_are_refused(rt: HostRuntime) {
     drop(ran);
 }
 
-/// A card that has a signature, for which the standard family answers after some ten microseconds.
 #[derive(Drop)]
 struct Slow {
     card: Card,
@@ -232,13 +223,12 @@ fn push_slow<R: Abort>(rt: &R, bodies: &mut Vec<Slow>, card: Card) {
     }
 }
 
-/// What has come out is the beginning of what the counter writes.
 fn begins_as_counted<R: Abort>(rt: &R, alloc: Global, run: &WatchedRun<Standard>) -> u64 {
     let stream = stream_of(alloc, run.net(), run.history(), 0).expect(rt, "memory");
     counted_from_one(rt, stream.as_slice())
 }
 
-/// How many tokens there are; they are the words from 1 on.
+/// The tokens must be the words from 1 on. Returns their number.
 fn counted_from_one<R: Abort>(rt: &R, tokens: &[Token]) -> u64 {
     let mut next = 1u64;
     for token in tokens {
@@ -248,7 +238,6 @@ fn counted_from_one<R: Abort>(rt: &R, tokens: &[Token]) -> u64 {
     next.saturating_sub(1)
 }
 
-/// Looks at one run that is stopped after a hundred entries, long before its end.
 fn shows_stopped<R: Wait + Clock + Threads + Sync + Abort>(rt: &R, alloc: Global, workers: usize) {
     let net = counter(rt, alloc, 500_000);
     let bodies = slow_bodies(rt, alloc, &net);
@@ -266,7 +255,6 @@ fn shows_stopped<R: Wait + Clock + Threads + Sync + Abort>(rt: &R, alloc: Global
     drop(run);
 }
 
-/// Compares how a run that was stopped ended, and its numbers.
 fn compare_stopped<R: Abort>(rt: &R, alloc: Global, run: &WatchedRun<Standard>) {
     same(rt, "end", run.end(), None);
     let report = chronicle_report(alloc, run.chronicle()).expect(rt, "memory");
@@ -291,8 +279,7 @@ fn a_run_is_stopped(rt: HostRuntime) {
     }
 }
 
-/// Runs a counter whose bodies are asked in place, beside an observer that stops it after a hundred entries. Returns whether
-/// it was stopped before its end.
+/// Returns whether an observer that stops after a hundred entries stopped the run before its end.
 fn stops_in_place<R: Wait + Clock + Threads + Sync + Abort>(
     rt: &R,
     alloc: Global,
@@ -311,7 +298,7 @@ fn stops_in_place<R: Wait + Clock + Threads + Sync + Abort>(
     is_stopped
 }
 
-/// Whether one of ten runs is stopped: an observer may come too late to stop a run, but not so often.
+/// Returns whether one of ten runs is stopped: an observer may come too late, but not ten times.
 fn one_stops_in_place<R: Wait + Clock + Threads + Sync + Abort>(
     rt: &R,
     alloc: Global,

@@ -1,4 +1,4 @@
-//! Boards: how many watchers there may be, and what is shown of histories that were worked out by hand.
+//! Boards: the greatest number of watchers, and what they show of histories worked out by hand.
 ghost use Rattle.std.specs.Prelude.{◌≡◌, ◌+◌, ◌<◌, ◌≤◌, ◌++◌, ◌∷◌, [], length};
 ghost use Rattle.kpn_model.specs.declared.history.Deed.TheVariants.{Put, Took, Stopped};
 ghost use Rattle.kpn_model.specs.declared.history.Entry.TheVariants.{Did, Grew};
@@ -23,7 +23,6 @@ fn progress(entries: u32, growths: u32, phase: Phase) -> Progress {
     }
 }
 
-/// Publishes one entry, then three with an end, and looks after each.
 fn looks_between(
     board: &Board,
     publisher: &mut Publisher,
@@ -66,7 +65,6 @@ fn a_look_shows_a_growth(rt: HostRuntime) -> Result<(), Fail> {
     Ok(())
 }
 
-/// Keeps an entry and publishes it, then two more with an end, and looks after each.
 fn kept_looks_between<H: Keeper>(
     board: &Board,
     publisher: &mut Publisher,
@@ -104,7 +102,6 @@ fn a_look_shows_kept_entries(rt: HostRuntime) -> Result<(), Fail> {
     Ok(())
 }
 
-/// How many watchers a board allows.
 fn watchers(board: &Board, publisher: &mut Publisher) -> usize
     requires { publisher.old.board ≡ board.now }
 {
@@ -124,7 +121,6 @@ fn there_are_64_watchers(rt: HostRuntime) {
     same(&rt, "watchers", watchers(&board, &mut publisher), 64);
 }
 
-/// A board with a watcher, and the history that is shown on it.
 #[derive(Drop)]
 struct Display {
     board: Board,
@@ -135,8 +131,8 @@ struct Display {
     ghost watched: { watcher.board ≡ board },
 }
 
-/// Ghost lemma: the words in which the board publishes the histories of a counter of three into a sink of one,
-/// among them the one after a growth that was refused its memory.
+/// Ghost lemma: the published words of a counter of three into a sink of one, also for a growth out of
+/// memory.
 fn worked_words()
     ensures one { word_of (Did 0 (Put 0 (Word 1)) ∷ []) Running ≡ 33554432 }
     ensures two { word_of (Did 0 (Put 0 (Word 1)) ∷ Did 1 (Took 0 (Word 1)) ∷ []) Running ≡ 67108864 }
@@ -169,7 +165,6 @@ impl Display {
         self.board.look(&mut self.watcher)
     }
 
-    /// Publishes the history with these entries appended, and compares a look.
     fn append<R: Abort>(&mut self, rt: &R, more: &[Entry], ended: Option<End>, due: Progress)
         requires shown { (self.old.publisher.entries ≡ self.old.history.items) × (self.old.publisher.phase ≡ Phase.Running) }
         requires short { length self.old.history.items + length more.now < 100 }
@@ -214,8 +209,7 @@ fn took(number: u64) -> Entry {
     }
 }
 
-/// A counter of three into a sink of one: the channel of capacity one grows to two. The words are those of
-/// `worked_words`.
+/// A counter of three into a sink of one; the channel grows from one to two. `worked_words` has the words.
 #[test]
 fn each_commit_is_shown(rt: HostRuntime) {
     worked_words();
@@ -239,7 +233,7 @@ fn each_commit_is_shown(rt: HostRuntime) {
     same(&rt, "left", publisher.join(&board, watcher), last);
 }
 
-/// A growth is refused its memory: the history stays, and the word is `refused` of `worked_words`.
+/// The growth is out of memory: the history stays, and the word is `refused` of `worked_words`.
 #[test]
 fn a_refused_growth_is_shown(rt: HostRuntime) {
     worked_words();

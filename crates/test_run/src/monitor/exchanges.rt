@@ -16,8 +16,7 @@ use std::sync::Wait;
 use std::sync::ledger::Ledger;
 use std::time::Duration;
 
-/// The result of an exchange: how many tasks were called before it, how many entries its answers
-/// appended, and what the hand was given.
+/// The tasks called before an exchange, the entries of their answers, and what the hand got.
 #[derive(Clone, Copy, Debug, PartialEq, Eq)]
 struct Round {
     called: usize,
@@ -25,14 +24,12 @@ struct Round {
     next: Next,
 }
 
-/// What a watcher is shown of the counter of three and its sink at their end.
 pub(crate) static SHOWN: Progress = Progress {
     entries: 8,
     growths: 0,
     phase: Phase::Terminated,
 };
 
-/// Calls all tasks of a hand, and returns how many there were.
 pub(crate) fn call_all<B: Body, R: Wait>(rt: &R, hand: &mut Hand<B>) -> usize
     ensures { hand.new.called ≡ length hand.new.tasks }
 {
@@ -46,7 +43,6 @@ pub(crate) fn call_all<B: Body, R: Wait>(rt: &R, hand: &mut Hand<B>) -> usize
     unreachable!()
 }
 
-/// How many entries these outcomes stand for.
 fn entries_of(outcomes: &[Outcome]) -> usize {
     let mut entries = 0usize;
     for outcome in outcomes {
@@ -80,8 +76,8 @@ fn play_round<B: Body, E: EntryLedger, O: Ledger, R: Wait + Abort>(
     }
 }
 
-/// Plays the rounds. In each but the first both processes do their next act; once the hand asks for no
-/// task, and at last it is idle.
+/// In each round with tasks both processes do their next act. One round asks for no task; at last the hand is
+/// idle.
 fn play_rounds<B: Body, E: EntryLedger, O: Ledger, R: Wait + Clock + Abort>(
     rt: &R,
     alloc: Global,
@@ -112,7 +108,6 @@ fn play_rounds<B: Body, E: EntryLedger, O: Ledger, R: Wait + Clock + Abort>(
     drop(hand);
 }
 
-/// One hand plays a counter of three into a sink of three to its end.
 pub(crate) fn exchanged<B: Body, E: EntryLedger, O: Ledger, R: Wait + Clock + Abort>(
     rt: &R,
     alloc: Global,
@@ -134,7 +129,6 @@ fn on(answers: u64) -> Went {
     }
 }
 
-/// The bodies of a counter of three and a sink of three are asked in place to their end.
 pub(crate) fn asked_in_place<B: Body, E: EntryLedger, O: Ledger, R: Wait + Clock + Abort>(
     rt: &R,
     alloc: Global,

@@ -1,4 +1,4 @@
-//! Calls of a monitor, with only such contracts as the scenes need.
+//! Calls of a monitor, with only the contracts that the scenes need.
 ghost use Rattle.std.specs.Prelude.{◌≡◌};
 ghost use Rattle.kpn_machine.specs.MachineView.{IsFresh};
 
@@ -18,7 +18,6 @@ use std::sync::Wait;
 use std::sync::atomic::{AtomicU64, Ordering};
 use std::sync::ledger::Ledger;
 
-/// What is read from a monitor that was closed.
 #[derive(Clone, Copy, Debug, PartialEq, Eq)]
 pub(crate) struct Ended {
     pub(crate) end: Option<End>,
@@ -27,7 +26,6 @@ pub(crate) struct Ended {
     pub(crate) processes: usize,
 }
 
-/// What a monitor of the network of a text is opened with.
 pub(crate) fn opening_of<R: Abort>(
     rt: &R,
     alloc: Global,
@@ -37,7 +35,6 @@ pub(crate) fn opening_of<R: Abort>(
     locked(rt, alloc, opened(rt, alloc, net, bodies))
 }
 
-/// Opens a machine.
 pub(crate) fn opened<B: Body, R: Abort>(
     rt: &R,
     alloc: Global,
@@ -52,7 +49,6 @@ pub(crate) fn opened<B: Body, R: Abort>(
     machine
 }
 
-/// Puts a machine under a lock.
 pub(crate) fn locked<B: Body, R: Abort>(rt: &R, alloc: Global, machine: Machine<B>) -> Opening<B>
     requires { IsFresh machine }
 {
@@ -62,7 +58,6 @@ pub(crate) fn locked<B: Body, R: Abort>(rt: &R, alloc: Global, machine: Machine<
     opening
 }
 
-/// Splits a seat in two.
 pub(crate) fn two_seats<E: EntryLedger, O: Ledger, R: Abort>(
     rt: &R,
     mut seat: Seat<E, O>,
@@ -73,7 +68,6 @@ pub(crate) fn two_seats<E: EntryLedger, O: Ledger, R: Abort>(
     (seat, other)
 }
 
-/// A new watcher.
 pub(crate) fn watcher_of<B: Body, E: EntryLedger, O: Ledger, R: Wait + Abort>(
     rt: &R,
     monitor: &Monitor<B, E, O>,
@@ -86,7 +80,6 @@ pub(crate) fn watcher_of<B: Body, E: EntryLedger, O: Ledger, R: Wait + Abort>(
     watcher
 }
 
-/// What a watcher sees.
 pub(crate) fn seen_by<B: Body, E: EntryLedger, O: Ledger>(
     monitor: &Monitor<B, E, O>,
     watcher: &mut Watcher,
@@ -97,7 +90,7 @@ pub(crate) fn seen_by<B: Body, E: EntryLedger, O: Ledger>(
     monitor.look(watcher)
 }
 
-/// The next task of a run that goes on.
+/// The run must not have ended.
 pub(crate) fn next_task<B: Body, E: EntryLedger, O: Ledger, R: Wait + Abort>(
     rt: &R,
     monitor: &Monitor<B, E, O>,
@@ -109,7 +102,7 @@ pub(crate) fn next_task<B: Body, E: EntryLedger, O: Ledger, R: Wait + Abort>(
     task
 }
 
-/// Commits an answer that was asked for.
+/// The monitor must accept the answer.
 pub(crate) fn outcome_of<B: Body, E: EntryLedger, O: Ledger, R: Wait + Abort>(
     rt: &R,
     monitor: &Monitor<B, E, O>,
@@ -122,7 +115,7 @@ pub(crate) fn outcome_of<B: Body, E: EntryLedger, O: Ledger, R: Wait + Abort>(
     outcome
 }
 
-/// Commits an answer that wasn't asked for, which comes back.
+/// The monitor must reject the answer, which is returned.
 pub(crate) fn handed_back<B: Body, E: EntryLedger, O: Ledger, R: Wait + Abort>(
     rt: &R,
     monitor: &Monitor<B, E, O>,
@@ -135,7 +128,7 @@ pub(crate) fn handed_back<B: Body, E: EntryLedger, O: Ledger, R: Wait + Abort>(
     finished
 }
 
-/// Works with one seat to the end of the run; no answer may be refused, and the gate is asked `due` times.
+/// The monitor must accept all answers, and ask the gate `due` times.
 pub(crate) fn work_counted<B: Body, E: EntryLedger, O: Ledger, R: Wait + Abort>(
     rt: &R,
     monitor: &Monitor<B, E, O>,
@@ -151,7 +144,7 @@ pub(crate) fn work_counted<B: Body, E: EntryLedger, O: Ledger, R: Wait + Abort>(
     seat
 }
 
-/// Works with one seat to the end of the run; no answer may be refused.
+/// The monitor must accept all answers.
 pub(crate) fn work_alone<B: Body, E: EntryLedger, O: Ledger, R: Wait + Abort>(
     rt: &R,
     monitor: &Monitor<B, E, O>,
@@ -162,7 +155,6 @@ pub(crate) fn work_alone<B: Body, E: EntryLedger, O: Ledger, R: Wait + Abort>(
     seat
 }
 
-/// A list of these seats, for which there must be memory.
 pub(crate) fn list_of<E: EntryLedger, O: Ledger, R: Abort, const N: usize>(
     rt: &R,
     alloc: Global,
@@ -174,7 +166,7 @@ pub(crate) fn list_of<E: EntryLedger, O: Ledger, R: Abort, const N: usize>(
     seats
 }
 
-/// Closes a monitor with this seat, which has all parts.
+/// The seat must have all parts.
 pub(crate) fn close_alone<B: Body, E: EntryLedger, O: Ledger, R: Abort>(
     rt: &R,
     alloc: Global,
@@ -184,7 +176,7 @@ pub(crate) fn close_alone<B: Body, E: EntryLedger, O: Ledger, R: Abort>(
     close_with(rt, monitor, list_of(rt, alloc, [seat]))
 }
 
-/// The result of a monitor that is closed with this seat, which has all parts.
+/// The seat must have all parts.
 pub(crate) fn ended_alone<B: Body, E: EntryLedger, O: Ledger, R: Abort>(
     rt: &R,
     alloc: Global,
@@ -197,7 +189,7 @@ pub(crate) fn ended_alone<B: Body, E: EntryLedger, O: Ledger, R: Abort>(
     ended
 }
 
-/// Closes a monitor with these seats, which have all parts.
+/// The seats must have all parts.
 pub(crate) fn close_with<B: Body, E: EntryLedger, O: Ledger, R: Abort>(
     rt: &R,
     monitor: Monitor<B, E, O>,
@@ -209,7 +201,6 @@ pub(crate) fn close_with<B: Body, E: EntryLedger, O: Ledger, R: Abort>(
     closed
 }
 
-/// Reads the result of a monitor that was closed.
 pub(crate) fn ended_of<K: Kinds, E: EntryLedger>(closed: &Closed<K, E>) -> Ended {
     Ended {
         end: closed.end(),
@@ -219,7 +210,6 @@ pub(crate) fn ended_of<K: Kinds, E: EntryLedger>(closed: &Closed<K, E>) -> Ended
     }
 }
 
-/// What a watcher is shown of the whole history.
 pub(crate) fn shown_to<K: Kinds, E: EntryLedger>(
     closed: &mut Closed<K, E>,
     watcher: Watcher,

@@ -1,7 +1,7 @@
-//! One request for memory is refused, whichever it is.
+//! One allocation fails, whichever it is.
 //!
-//! Each test passes whichever request is refused, and prints which one was. What can be tried again is
-//! tried again with what was handed back, and succeeds.
+//! Each test passes whichever fails, and prints which one. It retries with what the error returned, which
+//! succeeds.
 ghost use Rattle.std.specs.Prelude.{◌≡◌};
 ghost use Rattle.kpn_machine.specs.MachineView.{IsFresh};
 
@@ -23,14 +23,14 @@ use std::sync::ledger::Ledger;
 use std::test::Fail;
 use test_texts::{COUNTER_INTO_SMALL_SINK, RUNNING_SUMS};
 
-/// Which request for memory was refused, of those after which the test goes on.
+/// The allocation that failed, if the test can continue.
 #[derive(Clone, Copy, PartialEq, Eq)]
 enum Refused {
     Nothing,
     Machine,
     Opening,
     Growth,
-    /// One of the test's own requests, for the network, the bodies or the seats.
+    /// One of the test's own, for the network, the bodies or the seats.
     Elsewhere,
 }
 
@@ -45,7 +45,6 @@ impl Refused {
         }
     }
 
-    /// This, or the next if nothing was refused before.
     fn or(self, next: Refused) -> Refused {
         match self {
             Refused::Nothing => next,
@@ -54,7 +53,7 @@ impl Refused {
     }
 }
 
-/// Opens a machine of this number of processes, and tries again with what was handed back if memory was refused.
+/// If out of memory, retries with what the error returned.
 fn machine_again<B: Body, R: Abort>(
     rt: &R,
     alloc: Global,
@@ -73,7 +72,6 @@ fn machine_again<B: Body, R: Abort>(
     }
 }
 
-/// Opens a machine with what was handed back, which has this number of processes.
 fn open_refused_parts<B: Body, R: Abort>(
     rt: &R,
     alloc: Global,
@@ -89,8 +87,7 @@ fn open_refused_parts<B: Body, R: Abort>(
     opened(rt, alloc, net, bodies)
 }
 
-/// Puts a machine under a lock, and tries again with the machine that was handed back if memory was
-/// refused.
+/// If out of memory, retries with the machine that the error returned.
 fn opening_again<B: Body, R: Abort>(
     rt: &R,
     alloc: Global,
@@ -104,7 +101,6 @@ fn opening_again<B: Body, R: Abort>(
     }
 }
 
-/// Puts the machine that was handed back under a lock.
 fn open_refused_machine<B: Body, R: Abort>(rt: &R, alloc: Global, machine: Machine<B>) -> Opening<B>
     requires { IsFresh machine }
 {
@@ -115,7 +111,6 @@ fn open_refused_machine<B: Body, R: Abort>(rt: &R, alloc: Global, machine: Machi
 /// The result of a run, and what a watcher sees after it.
 type Shown = (Ended, Progress);
 
-/// Works alone to the end of a run, and looks at the result.
 fn work_to_the_end<B: Body, E: EntryLedger, O: Ledger, R: Wait + Abort>(
     rt: &R,
     alloc: Global,
@@ -138,7 +133,7 @@ fn work_to_the_end<B: Body, E: EntryLedger, O: Ledger, R: Wait + Abort>(
     Ok(refused)
 }
 
-/// A counter of three into a sink of one, if the growth was refused its memory: two puts, a take and a stop.
+/// A counter of three into a sink of one, with the growth out of memory: two puts, a take and a stop.
 static BEFORE_THE_GROWTH: Shown = (
     Ended {
         end: Some(End::Memory),
@@ -153,7 +148,7 @@ static BEFORE_THE_GROWTH: Shown = (
     },
 );
 
-/// What is shown then if the growth was not refused.
+/// The result if the growth gets its memory.
 static AFTER_THE_GROWTH: Shown = (
     Ended {
         end: Some(End::Terminated),
@@ -168,7 +163,7 @@ static AFTER_THE_GROWTH: Shown = (
     },
 );
 
-/// Running sums, of which no channel grows.
+/// Running sums; no channel grows.
 static RUNNING_SUMS_SHOWN: Shown = (
     Ended {
         end: Some(End::Deadlock),
@@ -183,11 +178,10 @@ static RUNNING_SUMS_SHOWN: Shown = (
     },
 );
 
-/// The word that the board holds if the growth was refused its memory: 4 * 2^25 + 0 * 8 + 5.
+/// The board's word if the growth is out of memory: 4 * 2^25 + 0 * 8 + 5.
 const WORD_BEFORE_THE_GROWTH: u64 = 134_217_733;
 
-/// Whether the growth was refused its memory, given that the run has ended; if not, the result is the one that is
-/// due.
+/// Returns whether the growth was out of memory; if not, compares with `due`.
 fn growth_refused<R: Abort>(rt: &R, shown: Shown, due: Shown) -> Refused {
     if shown.1.phase != Phase::Memory {
         same(rt, "ended", shown, due);
@@ -204,7 +198,6 @@ fn word_of(seen: Progress) -> u64 {
     (entries << 25) | (growths << 3) | seen.phase.number()
 }
 
-/// Opens a monitor, and works on it to its end.
 fn open_refused<B: Body, R: Wait + Abort>(
     rt: &R,
     alloc: Global,
@@ -218,7 +211,7 @@ fn open_refused<B: Body, R: Wait + Abort>(
     Ok(first.or(second).or(third))
 }
 
-/// Opens a monitor of the network of a text, and works on it to its end. Returns the word for what was refused.
+/// Returns the word for what failed.
 fn monitor_refused<R: Wait + Abort>(rt: &R, alloc: Global, text: &str, due: Shown) -> &'static str {
     let refused = match parts_or_refused(rt, alloc, text) {
         Ok(Parts { net, bodies }) => open_refused(rt, alloc, net, bodies, due),

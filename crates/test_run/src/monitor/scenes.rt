@@ -1,7 +1,4 @@
-//! What is played on a monitor.
-//!
-//! The names of a monitor's ledgers are type parameters, so each scene is a function that is generic
-//! over them.
+//! Scenes on a monitor, as generic functions: the names of its ledgers are type parameters.
 ghost use Rattle.std.specs.Prelude.{◌≡◌, ◌<◌, ◌++◌, ◌∷◌, [], All, IfSome};
 
 use crate::checks::same;
@@ -29,23 +26,22 @@ use test_texts::{COPIED_AND_WOVEN, COUNTER_INTO_SINK};
 enum Scene {
     /// A watcher looks a thousand times while two threads work on Parks's case to its end.
     Watched,
-    /// One seat commits one answer, the other works to the end, with a gate that is asked once for each
-    /// of the seven answers that are left, and the monitor is first closed without it, which is refused.
+    /// One seat commits one answer, the other the seven that are left (the gate is asked seven times).
+    /// Closing with the first alone fails; with both it succeeds.
     MissingSeat,
-    /// One seat works to the end, with a gate that is asked once for each of eight answers, and the
-    /// monitor is closed without the other, whose shares are empty.
+    /// One seat works to the end (the gate is asked eight times). Closing without the other, empty seat
+    /// succeeds.
     EmptySeat,
-    /// One seat works to the end, and the monitor is first closed with the idle one alone, which is refused.
+    /// One seat works to the end. Closing with the idle one alone fails.
     IdleSeat,
-    /// One seat commits one answer, or drops its task, and the monitor is closed with no end.
+    /// One seat commits one answer, or drops its task; the monitor closes without an end.
     OneTask { dropped: bool },
-    /// As many watchers as there may be, of Parks's case.
     MostWatchers,
-    /// One hand is exchanged until a counter of three has written into a sink of three.
+    /// One hand is exchanged to the end of a counter of three and its sink.
     Exchanged,
-    /// One seat has the bodies of the same network asked in place.
+    /// One seat asks the bodies of a counter of three and its sink in place.
     InPlace,
-    /// A thread that waits is woken by one that commits and leaves.
+    /// A waiting thread is woken by one that commits and leaves.
     Woken,
 }
 
@@ -55,7 +51,6 @@ static NOTHING: Progress = Progress {
     phase: Phase::Running,
 };
 
-/// After one entry.
 static ONE: Progress = Progress {
     entries: 1,
     growths: 0,
@@ -75,7 +70,6 @@ static WOVEN_ENDED: Ended = Ended {
     processes: 4,
 };
 
-/// A counter of three into a sink of three.
 pub(crate) static COUNTER_ENDED: Ended = Ended {
     end: Some(End::Terminated),
     receipts: 8,
@@ -83,7 +77,6 @@ pub(crate) static COUNTER_ENDED: Ended = Ended {
     processes: 2,
 };
 
-/// Opens a monitor, and plays a scene on it.
 fn play<B: Body, R: Threads + Wait + Clock + Abort + Sync>(
     rt: &R,
     alloc: Global,
@@ -93,7 +86,6 @@ fn play<B: Body, R: Threads + Wait + Clock + Abort + Sync>(
     play_opened::<B, Brand, Brand, R>(rt, alloc, opening, scene)
 }
 
-/// Plays a scene on the monitor of an opening.
 fn play_opened<
     B: Body,
     E: EntryLedger + Send + Sync,
@@ -119,7 +111,7 @@ fn play_opened<
     }
 }
 
-/// Looks a thousand times, and returns whether neither number ever fell.
+/// Returns whether neither number ever fell.
 fn looks<B: Body, E: EntryLedger, O: Ledger>(
     monitor: &Monitor<B, E, O>,
     mut watcher: Watcher,
@@ -137,7 +129,6 @@ fn looks<B: Body, E: EntryLedger, O: Ledger>(
     (rising, watcher)
 }
 
-/// Two seats work in threads of their own; no answer may be refused.
 fn work_in_two<
     B: Body,
     E: EntryLedger + Send + Sync,
@@ -156,7 +147,6 @@ fn work_in_two<
     )
 }
 
-/// Two seats work while a watcher looks a thousand times.
 fn work_watched<
     B: Body,
     E: EntryLedger + Send + Sync,
@@ -205,7 +195,6 @@ fn watched<
     drop(closed);
 }
 
-/// Closes a monitor with one of two seats, which is refused, and all is handed back.
 fn not_closed<B: Body, E: EntryLedger, O: Ledger, R: Abort>(
     rt: &R,
     monitor: Monitor<B, E, O>,
@@ -217,7 +206,6 @@ fn not_closed<B: Body, E: EntryLedger, O: Ledger, R: Abort>(
         .expect(rt, "closed without a seat")
 }
 
-/// Commits the counter's first answer.
 fn commits_one<B: Body, E: EntryLedger, O: Ledger, R: Wait + Abort>(
     rt: &R,
     monitor: &Monitor<B, E, O>,
@@ -228,7 +216,6 @@ fn commits_one<B: Body, E: EntryLedger, O: Ledger, R: Wait + Abort>(
     same(rt, "outcome", outcome, Outcome::Done(1));
 }
 
-/// The end that a seat meets.
 fn end_met<B: Body, E: EntryLedger, O: Ledger, R: Wait + Abort>(
     rt: &R,
     monitor: &Monitor<B, E, O>,
@@ -264,7 +251,7 @@ fn missing_seat<B: Body, E: EntryLedger, O: Ledger, R: Wait + Abort>(
     drop(closed);
 }
 
-/// Closes a monitor with one of two seats, which is refused, and then with both.
+/// Closes with one of two seats, which must fail, and then with both.
 fn close_at_last<B: Body, E: EntryLedger, O: Ledger, R: Abort>(
     rt: &R,
     alloc: Global,
@@ -317,7 +304,6 @@ fn one_task<B: Body, E: EntryLedger, O: Ledger, R: Wait + Abort>(
     has_no_end(rt, ended, dropped);
 }
 
-/// Takes a task, and drops it or commits its answer.
 fn answer_once<B: Body, E: EntryLedger, O: Ledger, R: Wait + Abort>(
     rt: &R,
     monitor: &Monitor<B, E, O>,
@@ -330,14 +316,12 @@ fn answer_once<B: Body, E: EntryLedger, O: Ledger, R: Wait + Abort>(
     }
 }
 
-/// The run has not ended, and has no entry if the one task was dropped.
 fn has_no_end<R: Abort>(rt: &R, ended: Ended, dropped: bool) {
     let receipts = if dropped { 0 } else { ended.receipts };
     let found = (ended.end, ended.entries as u64, ended.receipts);
     same(rt, "ended", found, (None, receipts, receipts));
 }
 
-/// Makes 64 watchers.
 fn watch_all<B: Body, E: EntryLedger, O: Ledger, R: Wait + Abort>(
     rt: &R,
     alloc: Global,
@@ -352,7 +336,6 @@ fn watch_all<B: Body, E: EntryLedger, O: Ledger, R: Wait + Abort>(
     watchers
 }
 
-/// Adds a watcher to a list, for which there must be memory.
 fn keep<R: Abort>(rt: &R, watchers: &mut Vec<Watcher>, watcher: Watcher)
     ensures { watchers.new.items ≡ watchers.old.items ++ watcher ∷ [] }
 {
@@ -361,7 +344,6 @@ fn keep<R: Abort>(rt: &R, watchers: &mut Vec<Watcher>, watcher: Watcher)
     }
 }
 
-/// Looks with each watcher, and moves them to the other list.
 fn all_look<B: Body, E: EntryLedger, O: Ledger, R: Abort>(
     rt: &R,
     monitor: &Monitor<B, E, O>,
@@ -378,7 +360,6 @@ fn all_look<B: Body, E: EntryLedger, O: Ledger, R: Abort>(
     }
 }
 
-/// Settles each watcher.
 fn all_settle<K: Kinds, E: EntryLedger, R: Abort>(
     rt: &R,
     closed: &mut Closed<K, E>,
@@ -391,7 +372,6 @@ fn all_settle<K: Kinds, E: EntryLedger, R: Abort>(
     }
 }
 
-/// Makes as many watchers as there may be, each of which looks once.
 fn looking_watchers<B: Body, E: EntryLedger, O: Ledger, R: Wait + Abort>(
     rt: &R,
     alloc: Global,
@@ -438,7 +418,6 @@ fn scenes_on_monitors(rt: HostRuntime) {
     }
 }
 
-/// Opens a monitor of the network of a text, and plays a scene on it.
 fn shows_scene<R: Threads + Wait + Clock + Abort + Sync>(
     rt: &R,
     alloc: Global,

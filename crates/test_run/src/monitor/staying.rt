@@ -1,4 +1,4 @@
-//! A process that can go on stays in its hand.
+//! A process that can continue stays in its hand.
 ghost use Rattle.std.specs.Prelude.{◌≡◌, length};
 
 use crate::checks::same;
@@ -16,8 +16,8 @@ use std::sync::Wait;
 use std::sync::ledger::Ledger;
 use test_texts::{COUNTER_INTO_SINK, READY_CHAIN};
 
-/// An exchange by a hand of at most three tasks: how many it asks for at most; the processes that were called
-/// before it, in order; the outcomes of their answers; and what the hand was given.
+/// An exchange by a hand of at most three tasks: the most it asks for, the processes called before it, their
+/// outcomes, and what the hand got.
 #[derive(Clone, Copy)]
 struct Round {
     most: usize,
@@ -26,12 +26,11 @@ struct Round {
     next: Next,
 }
 
-/// A counter of three and its sink, whose channel has room for one token.
+/// A counter of three and its sink, over a channel with room for one token.
 ///
-/// The hand has the counter alone at first, while the sink is ready. The counter writes, stays in its place and is
-/// the first to be called again, before the sink, which has waited longer. It can't write twice, so it is parked and
-/// leaves its place to the sink, whose read lets it write; now the sink is the first. From then on both can always go
-/// on, until each stops.
+/// At first the hand has the counter alone, and the sink is ready. The counter writes, stays, and is called
+/// again before the sink, which has waited longer. Its second write parks it, and it leaves its place to the
+/// sink, whose read lets it write. Now the sink comes first, and both can always continue until each stops.
 static COUNTER_STAYS: [Round; 6] = [
     Round {
         most: 1,
@@ -71,7 +70,7 @@ static COUNTER_STAYS: [Round; 6] = [
     },
 ];
 
-/// A hand of one task never has the counter twice in turn: the sink is ready, and comes first.
+/// A hand of one task never has the counter twice in turn: the ready sink comes first.
 static READY_COME_FIRST: [Round; 4] = [
     Round {
         most: 1,
@@ -99,7 +98,6 @@ static READY_COME_FIRST: [Round; 4] = [
     },
 ];
 
-/// An empty hand is given tasks.
 static FILLED: [Round; 1] = [Round {
     most: 16,
     called: [None, None, None],
@@ -107,8 +105,8 @@ static FILLED: [Round; 1] = [Round {
     next: Next::Tasks,
 }];
 
-/// What a second hand is given after an answer was refused: the process that was ready, and the two that had gone
-/// out again before the refusal.
+/// What a second hand gets after an answer was rejected: the ready process, and the two that went out again
+/// before that.
 static GIVEN_BACK: [Round; 2] = [
     Round {
         most: 16,
@@ -128,7 +126,7 @@ static GIVEN_BACK: [Round; 2] = [
     },
 ];
 
-/// The answers after the refused one were left in the hand, and are taken.
+/// The answers after the rejected one stayed in the hand, and are committed.
 static LEFT_IN_HAND: [Round; 1] = [Round {
     most: 0,
     called: [None, None, None],
@@ -136,7 +134,7 @@ static LEFT_IN_HAND: [Round; 1] = [Round {
     next: Next::Nothing,
 }];
 
-/// The result of the monitor whose tasks are answered elsewhere.
+/// The result of the monitor whose tasks are answered at the other.
 static NOTHING_DONE: Ended = Ended {
     end: None,
     receipts: 0,
@@ -144,7 +142,6 @@ static NOTHING_DONE: Ended = Ended {
     processes: 5,
 };
 
-/// The result of the chain.
 static CHAIN_ENDED: Ended = Ended {
     end: Some(End::Deadlock),
     receipts: 42,
@@ -152,7 +149,6 @@ static CHAIN_ENDED: Ended = Ended {
     processes: 5,
 };
 
-/// Calls the tasks of a hand, of which there are at most three, and returns the numbers of their processes.
 fn call_three<B: Body, R: Abort>(rt: &R, hand: &mut Hand<B>) -> [Option<usize>; 3]
     ensures { hand.new.called ≡ length hand.new.tasks }
 {
@@ -163,7 +159,6 @@ fn call_three<B: Body, R: Abort>(rt: &R, hand: &mut Hand<B>) -> [Option<usize>; 
     called
 }
 
-/// The first three outcomes of a hand.
 fn outcomes_of<B: Body>(hand: &Hand<B>) -> [Option<Outcome>; 3] {
     let outcomes = hand.outcomes();
     [
@@ -173,7 +168,6 @@ fn outcomes_of<B: Body>(hand: &Hand<B>) -> [Option<Outcome>; 3] {
     ]
 }
 
-/// Calls the tasks of a hand, exchanges them, and compares what came of it.
 fn play_round<B: Body, E: EntryLedger, O: Ledger, R: Wait + Abort>(
     rt: &R,
     monitor: &Monitor<B, E, O>,
@@ -190,7 +184,6 @@ fn play_round<B: Body, E: EntryLedger, O: Ledger, R: Wait + Abort>(
     same(rt, "next", next, due.next);
 }
 
-/// Plays these rounds, one after the other.
 fn play_rounds<B: Body, E: EntryLedger, O: Ledger, R: Wait + Abort>(
     rt: &R,
     monitor: &Monitor<B, E, O>,
@@ -203,7 +196,6 @@ fn play_rounds<B: Body, E: EntryLedger, O: Ledger, R: Wait + Abort>(
     }
 }
 
-/// A hand of its own plays these rounds.
 fn play_alone<B: Body, E: EntryLedger, O: Ledger, R: Wait + Abort>(
     rt: &R,
     alloc: Global,
@@ -216,7 +208,6 @@ fn play_alone<B: Body, E: EntryLedger, O: Ledger, R: Wait + Abort>(
     drop(hand);
 }
 
-/// Opens a monitor of the counter of three and its sink, on which one hand plays these rounds.
 fn counter_plays<B: Body, R: Wait + Abort>(
     rt: &R,
     alloc: Global,
@@ -226,7 +217,6 @@ fn counter_plays<B: Body, R: Wait + Abort>(
     counter_opened::<B, Brand, Brand, R>(rt, alloc, opening, rounds)
 }
 
-/// One hand plays these rounds on the monitor of an opening, whose run then comes to its end.
 fn counter_opened<B: Body, E: EntryLedger, O: Ledger, R: Wait + Abort>(
     rt: &R,
     alloc: Global,
@@ -249,7 +239,6 @@ fn counter_opened<B: Body, E: EntryLedger, O: Ledger, R: Wait + Abort>(
     );
 }
 
-/// Opens two monitors.
 fn two_monitors<B: Body, R: Wait + Abort>(
     rt: &R,
     alloc: Global,
@@ -259,7 +248,6 @@ fn two_monitors<B: Body, R: Wait + Abort>(
     refused_between::<B, Brand, Brand, Brand, Brand, R>(rt, alloc, first, second)
 }
 
-/// A hand with all five processes of the chain, which were called.
 fn full_hand<B: Body, E: EntryLedger, O: Ledger, R: Wait + Abort>(
     rt: &R,
     alloc: Global,
@@ -275,8 +263,8 @@ fn full_hand<B: Body, E: EntryLedger, O: Ledger, R: Wait + Abort>(
     hand
 }
 
-/// Sends all five processes of the chain out and drops their tasks, but of the third commits the answer: so it is
-/// ready.
+/// Takes all five processes of the chain. Commits the third's answer, so that it is ready, and drops the
+/// other tasks.
 fn send_out<B: Body, E: EntryLedger, O: Ledger, R: Wait + Abort>(
     rt: &R,
     monitor: &Monitor<B, E, O>,
@@ -292,7 +280,7 @@ fn send_out<B: Body, E: EntryLedger, O: Ledger, R: Wait + Abort>(
     }
 }
 
-/// Exchanges a hand in which the third answer was not asked for: the two before it are committed.
+/// Exchanges a hand whose third answer wasn't asked for: the two before it are committed.
 fn refuse_third<B: Body, E: EntryLedger, O: Ledger, R: Wait + Abort>(
     rt: &R,
     monitor: &Monitor<B, E, O>,
@@ -310,8 +298,9 @@ fn refuse_third<B: Body, E: EntryLedger, O: Ledger, R: Wait + Abort>(
     same(rt, "outcomes", outcomes_of(hand), [done, done, None]);
 }
 
-/// A hand that was filled at one monitor is exchanged at another of the same network, where all but the third of its
-/// processes are out too. The first two go out again, and after the refusal they are ready: a second hand has them.
+/// Fills a hand at one monitor and exchanges it at another of the same network, where all but the third
+/// process are out too. The first two go out again and are ready after the rejection: a second hand gets
+/// them.
 fn refused_between<B: Body, E: EntryLedger, O: Ledger, F: EntryLedger, P: Ledger, R: Wait + Abort>(
     rt: &R,
     alloc: Global,
@@ -346,7 +335,6 @@ fn refused_between<B: Body, E: EntryLedger, O: Ledger, F: EntryLedger, P: Ledger
     );
 }
 
-/// Refuses the third answer of a hand; a second hand goes on, and then the first.
 fn refuse_and_go_on<B: Body, E: EntryLedger, O: Ledger, R: Wait + Abort>(
     rt: &R,
     alloc: Global,

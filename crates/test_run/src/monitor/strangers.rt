@@ -1,4 +1,4 @@
-//! Answers that no monitor asked for: from another monitor, and made a second time.
+//! Answers that the monitor didn't ask for: from another monitor, and made a second time.
 ghost use Rattle.std.specs.Prelude.{◌≡◌};
 
 use crate::checks::same;
@@ -19,7 +19,6 @@ use std::sync::Wait;
 use std::sync::ledger::Ledger;
 use test_texts::COUNTER_INTO_SINK;
 
-/// Opens two monitors.
 fn two_monitors<B: Body, R: Wait + Abort>(
     rt: &R,
     alloc: Global,
@@ -29,7 +28,6 @@ fn two_monitors<B: Body, R: Wait + Abort>(
     stranger_between::<B, Brand, Brand, Brand, Brand, R>(rt, alloc, first, second)
 }
 
-/// Takes both processes, and returns the answer of the counter.
 fn counter_answers<B: Body, E: EntryLedger, O: Ledger, R: Wait + Abort>(
     rt: &R,
     monitor: &Monitor<B, E, O>,
@@ -41,7 +39,6 @@ fn counter_answers<B: Body, E: EntryLedger, O: Ledger, R: Wait + Abort>(
     counter.call()
 }
 
-/// Commits an answer whose process isn't out, closes the monitor, and returns the answer.
 fn refuse<B: Body, E: EntryLedger, O: Ledger, R: Wait + Abort>(
     rt: &R,
     alloc: Global,
@@ -55,21 +52,18 @@ fn refuse<B: Body, E: EntryLedger, O: Ledger, R: Wait + Abort>(
     finished
 }
 
-/// What a watcher is shown before the first entry.
 static NOTHING_SEEN: Progress = Progress {
     entries: 0,
     growths: 0,
     phase: Phase::Running,
 };
 
-/// What a watcher is shown after one entry.
 static ONE_SEEN: Progress = Progress {
     entries: 1,
     growths: 0,
     phase: Phase::Running,
 };
 
-/// The result of a monitor that is closed before the first entry.
 static NOTHING_DONE: Ended = Ended {
     end: None,
     receipts: 0,
@@ -77,7 +71,6 @@ static NOTHING_DONE: Ended = Ended {
     processes: 2,
 };
 
-/// The result of a monitor that is closed after one entry, before the end.
 static ONE_DONE: Ended = Ended {
     end: None,
     receipts: 1,
@@ -85,7 +78,6 @@ static ONE_DONE: Ended = Ended {
     processes: 2,
 };
 
-/// Commits the counter's first answer, which a watcher sees.
 fn commit_first<B: Body, E: EntryLedger, O: Ledger, R: Wait + Abort>(
     rt: &R,
     monitor: &Monitor<B, E, O>,
@@ -106,7 +98,6 @@ fn commit_first<B: Body, E: EntryLedger, O: Ledger, R: Wait + Abort>(
     );
 }
 
-/// Closes after one entry, which a watcher is shown.
 fn close_after_one<B: Body, E: EntryLedger, O: Ledger, R: Abort>(
     rt: &R,
     alloc: Global,
@@ -122,8 +113,8 @@ fn close_after_one<B: Body, E: EntryLedger, O: Ledger, R: Abort>(
     drop(closed);
 }
 
-/// The counter's answer from one monitor is committed to the other while its counter isn't out: it is
-/// handed back, and then accepted by the monitor that asked for it.
+/// Commits the counter's answer at the wrong monitor, where its counter isn't out: it comes back, and the
+/// monitor that asked for it accepts it.
 fn stranger_between<B: Body, E: EntryLedger, O: Ledger, F: EntryLedger, P: Ledger, R: Wait + Abort>(
     rt: &R,
     alloc: Global,
@@ -149,7 +140,6 @@ fn stranger_between<B: Body, E: EntryLedger, O: Ledger, F: EntryLedger, P: Ledge
     close_after_one(rt, alloc, monitor, seat, watcher)
 }
 
-/// Opens a monitor of a counter of three into a sink of three, beside a second answer of the counter.
 fn one_monitor<B: Body, R: Wait + Abort>(
     rt: &R,
     alloc: Global,
@@ -159,7 +149,7 @@ fn one_monitor<B: Body, R: Wait + Abort>(
     second_answer::<B, Brand, Brand, R>(rt, alloc, opening, second)
 }
 
-/// The answer of a body as the task of process 0 at its start, for which no monitor asked.
+/// Returns an answer of process 0 at its start that no monitor asked for.
 fn unasked<B: Body>(body: B) -> Finished<B> {
     let card = body.card();
     let start = B::Kinds::start(&card);
@@ -167,8 +157,7 @@ fn unasked<B: Body>(body: B) -> Finished<B> {
     Task::new(0, body, start, None).call()
 }
 
-/// Commits an answer of process 0 at its start that was not asked for, and compares what is handed
-/// back; a watcher still sees one entry.
+/// Commits an answer of `unasked`; a watcher still sees one entry.
 fn refuse_again<B: Body, E: EntryLedger, O: Ledger, R: Wait + Abort>(
     rt: &R,
     monitor: &Monitor<B, E, O>,
@@ -186,8 +175,8 @@ fn refuse_again<B: Body, E: EntryLedger, O: Ledger, R: Wait + Abort>(
     finished
 }
 
-/// The counter's first answer is committed a second time, from a body that the monitor does not have:
-/// while the counter is ready, and while it is out in another state.
+/// Commits the counter's first answer a second time, from a body that the monitor doesn't have: while the
+/// counter is ready, and while it is out in another state.
 fn second_answer<B: Body, E: EntryLedger, O: Ledger, R: Wait + Abort>(
     rt: &R,
     alloc: Global,
@@ -208,8 +197,8 @@ fn second_answer<B: Body, E: EntryLedger, O: Ledger, R: Wait + Abort>(
     close_after_one(rt, alloc, monitor, seat, watcher)
 }
 
-/// Refuses the counter's first answer while the counter is out in its next state, whose answer has to
-/// wait.
+/// Commits the counter's first answer while the counter is out in its next state, then the answer of that
+/// state, which parks the counter.
 fn refuse_while_out<B: Body, E: EntryLedger, O: Ledger, R: Wait + Abort>(
     rt: &R,
     monitor: &Monitor<B, E, O>,

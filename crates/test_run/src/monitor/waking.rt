@@ -15,7 +15,6 @@ use std::sync::ledger::Ledger;
 use std::thread::{Threads, join, sleep, yield_now};
 use std::time::Duration;
 
-/// A counter of one and its sink.
 pub(crate) const ONE_TOKEN: &str = "version = 1
 
 [[process]]
@@ -34,7 +33,6 @@ from = \"src\"
 to = \"snk\"
 ";
 
-/// Each of the two has done its deed and has stopped.
 static ONE_ENDED: Ended = Ended {
     end: Some(End::Terminated),
     receipts: 4,
@@ -42,10 +40,9 @@ static ONE_ENDED: Ended = Ended {
     processes: 2,
 };
 
-/// How many milliseconds a thread that is about to wait is given to begin.
+/// Milliseconds that a thread gets to begin its wait.
 const PATIENCE: u64 = 50;
 
-/// Takes the tasks of the counter and of its sink.
 fn both_tasks<B: Body, E: EntryLedger, O: Ledger, R: Wait + Abort>(
     rt: &R,
     monitor: &Monitor<B, E, O>,
@@ -60,8 +57,8 @@ fn both_tasks<B: Body, E: EntryLedger, O: Ledger, R: Wait + Abort>(
     }
 }
 
-/// Takes the sink's task, and has the counter write its token and stop. So no process is ready, and the sink's
-/// answer, which is returned, makes the sink ready, and nobody else.
+/// Takes the sink's task, and lets the counter write and stop. Returns the sink's answer: no process is
+/// ready, and committing it makes the sink ready.
 fn one_is_out<B: Body, E: EntryLedger, O: Ledger, R: Wait + Abort>(
     rt: &R,
     monitor: &Monitor<B, E, O>,
@@ -95,8 +92,8 @@ fn commits_late<B: Body, E: EntryLedger, O: Ledger, R: Wait + Clock + Abort>(
     same(rt, "read", read, Outcome::Done(1));
 }
 
-/// One thread waits in `take`, another commits an answer that makes one process ready, and leaves. The first has to
-/// come back: it does what is left.
+/// One thread waits in `take`; the other commits an answer that makes one process ready, and leaves. The
+/// first must wake and do what is left.
 fn one_leaves<
     B: Body,
     E: EntryLedger + Send + Sync,
@@ -117,7 +114,6 @@ fn one_leaves<
     (leaves, stays)
 }
 
-/// A waiter is woken by one that commits and leaves, and goes on to the end.
 pub(crate) fn woken<
     B: Body,
     E: EntryLedger + Send + Sync,

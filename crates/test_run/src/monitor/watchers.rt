@@ -5,21 +5,18 @@ use crate::checks::same;
 use kpn_machine::{Deed, Entry};
 use kpn_watch::{Board, Phase, Progress, Publisher, WatchFault, Watcher};
 
-/// Before the first entry.
 static NOTHING: Progress = Progress {
     entries: 0,
     growths: 0,
     phase: Phase::Running,
 };
 
-/// After the one entry and the end.
 static ENDED: Progress = Progress {
     entries: 1,
     growths: 0,
     phase: Phase::Terminated,
 };
 
-/// Looks, publishes one entry with the end, and looks again.
 fn looks(board: &Board, publisher: &mut Publisher, watcher: &mut Watcher) -> (Progress, Progress)
     requires publisher { (publisher.old.board ≡ board.now) × (publisher.old.entries ≡ []) × (publisher.old.phase ≡ Phase.Running) }
     requires watcher { watcher.old.board ≡ board.now }
@@ -45,7 +42,6 @@ fn a_watcher_sees_what_is_published(rt: HostRuntime) {
     same(&rt, "full", WatchFault::Full.number(), 1);
 }
 
-/// Each phase of an end.
 #[test]
 fn phases_have_numbers(rt: HostRuntime) {
     let numbers = [
