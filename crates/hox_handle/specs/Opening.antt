@@ -37,7 +37,7 @@ flow_named = both_named all_named exit_named
 abbrev pub flow_ports : Card → Option Signature
 flow_ports = both_ports all_ports exit_ports
 
--- the completed sketch of a text, in which processes that only read a drained channel stop at once
+-- the completed sketch, in which processes that only read a drained channel stop at once
 abbrev pub flow_sketch : List ℕ → List (List ℕ) → Sketch → Sketch
 flow_sketch text drained described = with_exits drained (as_meant all_named all_ports text described)
 
@@ -45,8 +45,7 @@ flow_sketch text drained described = with_exits drained (as_meant all_named all_
 abbrev pub IsReadAs : List ℕ → Sketch → Type 0
 IsReadAs text sketch = (described : Sketch) × Describes text described × (sketch ≡ as_meant all_named all_ports text described)
 
--- a flow is at the start of the network of a text; the first names are its inputs, the others its outputs,
--- each at its name's place
+-- a flow at the start of the text's network; each input or output has its name's place
 pub record OpensBetween (text : List ℕ) (fed drained : List (List ℕ)) (start : FlowView) : Type 0 where
   pub described : Sketch
   pub describes : Describes text described
@@ -60,7 +59,7 @@ pub record Opens (text inputs outputs : List ℕ) (start : FlowView) : Type 0 wh
   pub drained_are : AreNames outputs drained
   pub between : OpensBetween text fed drained start
 
--- the network of the text can't be fed or drained at these channels
+-- the text's network can't be fed or drained at these channels
 abbrev pub IsEndFault : List ℕ → List (List ℕ) → List (List ℕ) → StreamFault → Type 0
 IsEndFault text fed drained fault =
     (described : Sketch) × Describes text described × IsStreamFault flow_kinds (net_of flow_named (flow_sketch text drained described)) (λ _. ⊥) fed drained fault

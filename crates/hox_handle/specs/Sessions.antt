@@ -22,16 +22,16 @@ flow_kinds = both_family (both_family standard signals) exits
 abbrev pub nothing_for : Answer → Moved
 nothing_for answer = record { count = 0; answer = answer }
 
--- words are fed into the input at this place; if there is none, nothing changes
+-- words are fed into the input at this place; without one nothing changes
 abbrev pub FeedsAt : FlowView → FlowView → ℕ → List ℕ → Moved → Type 0
 FeedsAt s t place words moved = MatchOption (slice_get s.inputs place) ((moved ≡ nothing_for NoChannel) × (t ≡ s)) (λ c. Feeds flow_kinds s t c words moved)
 
--- words are drained from the output at this place; if there is none, nothing changes
+-- words are drained from the output at this place; without one nothing changes
 abbrev pub DrainsAt : FlowView → FlowView → ℕ → List ℕ → List ℕ → Moved → Type 0
 DrainsAt s t place before after moved =
     MatchOption (slice_get s.outputs place) ((moved ≡ nothing_for NoChannel) × (t ≡ s) × (after ≡ before)) (λ c. Drains flow_kinds s t c before after moved.count × (moved.answer ≡ Done))
 
--- the input at this place has ended; if there is none, nothing changes
+-- the input at this place has ended; without one nothing changes
 abbrev pub EndsAt : FlowView → FlowView → ℕ → Answer → Type 0
 EndsAt s t place answer = MatchOption (slice_get s.inputs place) ((answer ≡ NoChannel) × (t ≡ s)) (λ c. (answer ≡ Done) × (t ≡ with_ended s c))
 

@@ -22,8 +22,8 @@ word_of (Flag true) = 1
 abbrev pub IsNoFlag : Sort → ℕ → Type 0
 IsNoFlag sort word = (sort ≡ Flags) × (1 < word)
 
--- why only the first n words were fed into c: these are all, or it is full; or the next is no flag; or it is
--- no input or has ended
+-- why only the first n words were fed into c: these are all, or it is full; the next is no flag; it is no
+-- input or has ended
 abbrev pub IsFedUpTo : FlowView → ℕ → List ℕ → ℕ → Answer → Type 0
 IsFedUpTo s c words n Done = n < length words → capacity s.state c ≤ length (tokens s.state c)
 IsFedUpTo s c words n NoFlag = (n < length words) × IsNoFlag (channel_of s.network c).sort (get_or words n 0)

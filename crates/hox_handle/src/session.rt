@@ -15,7 +15,7 @@ use std::marker::Model;
 /// The kinds of a session's processes: those of descriptions, and readers that stop at once.
 pub(crate) type FlowKinds = Both<AllKinds, Exits>;
 
-/// A flow, and its fed and drained channels in the order of their names. Contracts see the flow.
+/// A flow, and its fed and drained channels in the order in which `open` names them. Contracts see the flow.
 #[derive(Drop)]
 pub struct Session {
     pub(crate) flow: Flow<CardBody<FlowKinds>>,
@@ -48,7 +48,8 @@ impl Session {
         feed_words(&mut self.flow, input, words)
     }
 
-    /// Moves words of output `place` to the front of a buffer, in order, until either is exhausted.
+    /// Moves words of output `place` to the front of a buffer, in order, until the output is empty or the buffer
+    /// is full.
     ///
     /// Returns the number moved and `Done`, or `NoChannel` if there is none.
     pub fn drain(&mut self, place: usize, words: &mut [u64]) -> Moved

@@ -77,7 +77,8 @@ pub(crate) fn feed_words<B: Body>(flow: &mut Flow<B>, channel: usize, words: &[u
     }
 }
 
-/// Moves words of an output to the front of a buffer, in order, until either is exhausted. Returns how many.
+/// Moves words of an output to the front of a buffer, in order, until the output is empty or the buffer is
+/// full. Returns how many.
 pub(crate) fn drain_words<B: Body>(flow: &mut Flow<B>, channel: usize, words: &mut [u64]) -> usize
     requires { is_among flow.old.outputs channel ≡ true }
     ensures { Drains (family B.Kinds.Kinds) flow.old flow.new channel words.old words.new result }

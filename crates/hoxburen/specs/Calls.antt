@@ -57,8 +57,7 @@ FindsPlace net channels name place number =
 abbrev pub TellsVerdict : FlowView → ℕ → ℕ → Type 0
 TellsVerdict s verdict number = (stand : Pause) × IsStand flow_kinds s.network s.unended s.outputs s.state s.standings stand × (verdict ≡ pause_number stand) × (number ≡ 0)
 
--- an open flow stays as it is; a closed one is opened at the start of the network of the text, or stays
--- closed
+-- an open flow stays; a closed one is opened at the start of the text's network, or stays closed
 abbrev pub OpensFlow : List ℕ → List ℕ → List ℕ → Option FlowView → Option FlowView → ℕ → Type 0
 OpensFlow text inputs outputs (Some s) after number = (after ≡ Some s) × (number ≡ answer_number Open)
 OpensFlow text inputs outputs None after number =
@@ -68,18 +67,17 @@ OpensFlow text inputs outputs None after number =
 abbrev pub IsMessage : List ℕ → List ℕ → ℕ → Type 0
 IsMessage before after length = ((message : List ℕ) × IsCopied message before after length) ⊎ ((after ≡ before) × (length ≡ 0))
 
--- the text describes a network, and there is no message; or it has the fault of this number, perhaps with a
--- message
+-- the text describes a network, without a message; or it has this fault, perhaps with one
 abbrev pub ChecksText : List ℕ → List ℕ → List ℕ → ℕ → ℕ → Type 0
 ChecksText text before after length number = (answer : Answer) × Checks text answer × (number ≡ answer_number answer) × IsMessage before after length × (answer ≡ Done → length ≡ 0)
 
--- the network of the text was run, and its report is in the buffer; or the text has the fault of this number
+-- the text's network was run, and its report is in the buffer; or the text has this fault
 abbrev pub RunsText : List ℕ → List ℕ → List ℕ → ℕ → ℕ → Type 0
 RunsText text before after length number =
     ((told : Told) × RunsTo text told × (number ≡ end_number told.end) × IsCopied (string_bytes told.report) before after length)
     ⊎ ((fault : NetFault) × LoadsText text (Err fault) × (number ≡ number_of_fault fault) × IsMessage before after length)
 
--- the report of how the flow stands is in the buffer; or out of memory
+-- the report is in the buffer; or out of memory
 abbrev pub IsReported : FlowView → List ℕ → List ℕ → ℕ → ℕ → Type 0
 IsReported s before after length number =
     ((text : List ℕ) × TellsStand flow_kinds s text × IsCopied text before after length × (number ≡ 0)) ⊎ ((after ≡ before) × (length ≡ 0) × (number ≡ answer_number (Description Memory)))

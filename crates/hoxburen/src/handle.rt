@@ -10,8 +10,8 @@ use std::marker::Model;
 use std::mem;
 use std::ptr::null_mut;
 
-/// A flow that the caller keeps: null if closed, else the pointer of a box that holds its session. All bytes
-/// 0 is a closed flow. `kept` is the session of an open one.
+/// A flow that the caller keeps: null if closed, else the pointer of a box with its session, which is `kept`.
+/// All bytes 0 is a closed flow.
 #[repr(C)]
 pub struct HoxFlow {
     at: *mut u8,
@@ -43,7 +43,6 @@ impl HoxFlow {
         }
     }
 
-    /// Returns the parts of the box if the flow is open.
     fn into_parts(self) -> Option<Parts<Session, Global>>
         ensures { MatchOption result (self.kept ≡ None) (λ parts. self.kept ≡ Some parts.value) }
     {

@@ -9,7 +9,7 @@ use hox_handle::{Answer, copy_out, pause_number};
 use kpn_net::NetFault;
 use std::alloc::Global;
 
-/// Sets `may` to 1 if the input at a place has room and has not ended, else to 0.
+/// Sets `may` to 1 if an input has room and has not ended, else to 0.
 #[unsafe(no_mangle)]
 pub extern "C" fn hox_may_feed(
     alloc: Global,
@@ -30,7 +30,7 @@ pub extern "C" fn hox_may_feed(
     }
 }
 
-/// Sets `waits` to 1 if a process waits for a word of the input at a place, else to 0.
+/// Sets `waits` to 1 if a process waits for a word of an input, else to 0.
 #[unsafe(no_mangle)]
 pub extern "C" fn hox_waits_for_input(
     alloc: Global,
@@ -51,7 +51,7 @@ pub extern "C" fn hox_waits_for_input(
     }
 }
 
-/// Sets `waits` to 1 if a process waits for room in the output at a place, else to 0.
+/// Sets `waits` to 1 if a process waits for room in an output, else to 0.
 #[unsafe(no_mangle)]
 pub extern "C" fn hox_waits_for_output(
     alloc: Global,
@@ -87,7 +87,7 @@ fn tell_flag(told: Option<bool>, out: &mut u32) -> u32
     }
 }
 
-/// Sets `held` and `capacity` to the number of words in the input at a place and its current capacity.
+/// Sets `held` and `capacity` to an input's number of words and current capacity.
 #[unsafe(no_mangle)]
 pub extern "C" fn hox_input_fill(
     alloc: Global,
@@ -110,7 +110,7 @@ pub extern "C" fn hox_input_fill(
     }
 }
 
-/// Sets `held` and `capacity` to the number of words in the output at a place and its current capacity.
+/// Sets `held` and `capacity` to an output's number of words and current capacity.
 #[unsafe(no_mangle)]
 pub extern "C" fn hox_output_fill(
     alloc: Global,
@@ -150,7 +150,7 @@ fn tell_fill(told: Option<(usize, usize)>, held: &mut u64, capacity: &mut u64) -
     }
 }
 
-/// Sets `entries` to the number of entries so far, and `growths` to how many of them were growths.
+/// Sets `entries` to the number of entries so far, `growths` to how many were growths.
 #[unsafe(no_mangle)]
 pub extern "C" fn hox_entries(
     alloc: Global,
@@ -188,7 +188,7 @@ pub extern "C" fn hox_verdict(alloc: Global, flow: &mut HoxFlow, verdict: &mut u
     }
 }
 
-/// Writes the report of how the flow stands to the front of a buffer; `length` is its full length.
+/// Writes the flow's report to the front of a buffer; `length` is its full length.
 #[unsafe(no_mangle)]
 pub extern "C" fn hox_report(
     alloc: Global,

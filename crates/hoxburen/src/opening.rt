@@ -10,9 +10,9 @@ use hox_handle::{Answer, OpenFault, Session, copy_out};
 use hox_stream::StreamFault;
 use std::alloc::Global;
 
-/// Opens a closed flow at the start of the network of a description. `inputs` and `outputs` name the channels
-/// to feed and to drain, separated by white space. The message of an error goes into the buffer, its full
-/// length into `length`.
+/// Opens a closed flow at the start of a description's network. `inputs` and `outputs` name the channels to
+/// feed and to drain, separated by white space. An error's message goes into the buffer, its full length into
+/// `length`.
 #[unsafe(no_mangle)]
 pub extern "C" fn hox_open(
     alloc: Global,

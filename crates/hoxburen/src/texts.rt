@@ -18,7 +18,7 @@ pub extern "C" fn hox_version() -> u32
     VERSION
 }
 
-/// Checks a description. The message of an error goes into the buffer, its full length into `length`.
+/// Checks a description. An error's message goes into the buffer, its full length into `length`.
 #[unsafe(no_mangle)]
 pub extern "C" fn hox_check(
     alloc: Global,
@@ -34,8 +34,8 @@ pub extern "C" fn hox_check(
     answer.number()
 }
 
-/// Runs the network of a description from start to end. The report, or what is wrong with the description,
-/// goes into the buffer, its full length into `length`.
+/// Runs a description's network from start to end. The report or an error's message goes into the buffer, its
+/// full length into `length`.
 #[unsafe(no_mangle)]
 pub extern "C" fn hox_run(alloc: Global, text: &[u8], report: &mut [u8], length: &mut usize) -> u32
     ensures { RunsText text.now report.old report.new length.new result }
@@ -63,7 +63,7 @@ fn say_answer(alloc: Global, text: &[u8], answer: Answer, buffer: &mut [u8]) -> 
     }
 }
 
-/// Writes what is wrong with a description to the front of a buffer, and returns its full length.
+/// Writes the fault's message to the front of a buffer, and returns its full length.
 fn say_fault(alloc: Global, text: &[u8], fault: NetFault, buffer: &mut [u8]) -> usize
     ensures { IsMessage buffer.old buffer.new result }
 {
