@@ -62,7 +62,7 @@
  *     it did not fit: call with a buffer of length 0 to learn the length needed.
  *
  * MEMORY
- *     Memory comes from malloc. If malloc fails, the answer is HOX_FAULT_MEMORY or HOX_MEMORY, and nothing breaks.
+ *     Memory comes from malloc. If malloc fails, the call reports HOX_FAULT_MEMORY or HOX_MEMORY, and nothing breaks.
  *     hox_close frees all memory of a flow. The library has no global state, starts no thread, takes no lock, reads no
  *     file and prints nothing.
  */
