@@ -1,14 +1,14 @@
-/* A level meter, a part of which is a process of our own: the root. Reads a sample a line and writes the level of each:
+/* A level meter with a process of our own, which computes roots. Reads a sample a line, and writes the level of each:
  *     printf '%s\n' 30 -40 50 | ./level embedding/level.toml */
 #include "hoxburen.h"
 #include <inttypes.h>
 #include <stdio.h>
 #include <string.h>
 
-enum { X, ROOT };      /* the inputs, in the order in which hox_open names them */
+enum { X, ROOT };      /* the inputs, in the order given to hox_open */
 enum { POWER, LEVEL }; /* the outputs */
 
-/* The greatest number whose square is at most `square`. */
+/* Returns the greatest number whose square is at most `square`. */
 static uint64_t root_of(uint64_t square) {
     uint64_t root = 0;
     for (uint64_t bit = UINT64_C(1) << 31; bit != 0; bit /= 2)
@@ -16,7 +16,7 @@ static uint64_t root_of(uint64_t square) {
     return root;
 }
 
-/* Goes on as far as the network goes, and writes the levels that come out. */
+/* Runs the network as far as it can, and writes the levels that come out. */
 static void go_on(hox_flow *flow) {
     uint32_t pause;
     uint64_t levels[64];

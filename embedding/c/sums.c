@@ -1,4 +1,4 @@
-/* Reads a number a line, and writes the moving sum and the low-pass of each:
+/* Reads a number a line, and writes its moving sum and low-pass:
  *     seq 1 10 | ./sums embedding/sums.toml */
 #include "hoxburen.h"
 #include <inttypes.h>

@@ -1,5 +1,5 @@
-/* What a caller may get wrong, and the number that answers: a line for each call. None of them breaks anything; what does
- * is in the header, under DUTIES OF THE CALLER. */
+/* Shows wrong calls and the number that each answers, a line a call. None of them breaks anything; what does is in the
+ * header, under DUTIES OF THE CALLER. */
 #include "hoxburen.h"
 #include <inttypes.h>
 #include <stdio.h>
@@ -28,7 +28,7 @@ int main(void) {
     uint32_t pause, may;
     hox_flow flow = HOX_FLOW_CLOSED;
 
-    /* A network that is refused: the process at the front of x writes words, and the one at its end reads flags. */
+    /* This network fails the check: x's writer writes words, and its reader reads flags. */
     SHOW(hox_check(TEXT(words_there), message, sizeof message - 1, &length));
     printf("   %s\n", message);
     SHOW(hox_open(&flow, TEXT(words_there), TEXT("x"), TEXT("y"), NULL, 0, &length));
@@ -40,7 +40,7 @@ int main(void) {
     SHOW(hox_entries(&flow, &entries, &growths));
     SHOW(hox_close(&flow));
 
-    /* The other network is good; its channels are named wrongly. */
+    /* The other network is valid, but these names are wrong. */
     SHOW(hox_open(&flow, TEXT(text), TEXT("\xff"), TEXT("y"), message, sizeof message, &length));
     SHOW(hox_open(&flow, TEXT(text), TEXT("y"), TEXT("y"), message, sizeof message, &length));
     SHOW(hox_open(&flow, TEXT(text), TEXT("z"), TEXT("y"), message, sizeof message, &length));
@@ -54,7 +54,7 @@ int main(void) {
     SHOW(hox_drain(&flow, SIZE_MAX, words, 1, &count));
     SHOW(hox_may_feed(&flow, 1, &may));
 
-    /* The input has room for one flag; the others are offered again. */
+    /* The input has room for one flag; the others are fed again later. */
     SHOW(hox_feed(&flow, 0, words, 3, &count));
     printf("   %d of 3\n", (int)count);
     SHOW(hox_advance(&flow, 10, &pause));

@@ -1,8 +1,8 @@
-"""Kahn process networks: checked, run, and fed and drained for as long as you like.
+"""Checks and runs Kahn process networks, and feeds and drains networks that may run forever.
 
-A description is a text in TOML that names processes, each of a kind, and the channels between them (docs/format.md and
-docs/signals.md of Hoxburen). A flow is its network at work: you feed words into its inputs, and take them from its
-outputs. What comes out depends on what you feed, and never on when, nor in what pieces.
+A description is a TOML text that lists processes, each with its kind, and the channels between them (docs/format.md and
+docs/signals.md of Hoxburen). A flow runs its network: you feed words into its inputs and drain them from its outputs.
+The output depends only on what you feed, never on when, or in what pieces.
 
     import hoxburen
 
@@ -11,25 +11,25 @@ outputs. What comes out depends on what you feed, and never on when, nor in what
         for word in flow["sum"]:
             print(word)
 
-An input is a channel whose writer stops at once, as the kinds `input`, `input_flags` and `count 0 0` do; an output is
-one whose reader only reads it, as `drain`, `drain_flags` and `sink` do. A word has 64 bits. On a channel of flags, 0 is
-false and 1 is true.
+An input is a channel whose writer stops at once (kinds `input`, `input_flags` and `count 0 0`); an output is one whose
+reader only reads it (`drain`, `drain_flags` and `sink`). Words have 64 bits. On a channel of flags, 0 is false and 1 is
+true.
 
-There are two ways to move words, and they may be mixed:
+There are two ways to move words, which you may mix:
 
-    feed, for, drain, drain_into    Simple. Words that an input has no room for wait in this module, and so do words of
-                                    other outputs that are full. The network goes on by itself.
-    offer, advance, poll            Under your control. Nothing waits in this module, so memory is bounded by the
-                                    capacities of the channels; the network goes on where you call `advance`.
+    feed, for, drain, drain_into    Simple. Words that don't fit into an input wait in this module, and so do words of
+                                    other outputs that are full. The network advances by itself.
+    offer, advance, poll            Under your control. No words wait in this module, so the capacities of the channels
+                                    bound the memory; the network advances only when you call `advance`.
 
-Words come from a list or another iterable of numbers, or from anything with the buffer protocol whose items are
-integers of 64 bits: an array of "Q" or "q", a NumPy array of uint64 or int64, a memoryview. Of a buffer, what has room
-is fed without a copy.
+Words come from a list or another iterable of numbers, or from an object with the buffer protocol whose items are 64-bit
+integers: an array of "Q" or "q", a NumPy array of uint64 or int64, a memoryview. Words of a buffer that fit are fed
+without a copy.
 
-The work is done by a shared library, libhoxburen.so. It is looked for in the folder that the environment variable
-HOXBUREN_LIB names, then in the places where the repository and `tools/install` put it, then by the system.
+The engine is a shared library, libhoxburen.so. This module looks for it in the folder named by the environment variable
+HOXBUREN_LIB, then where the repository and `tools/install` put it, then where the system looks.
 
-Flows of different threads work side by side. A flow that several threads share takes one call at a time.
+Flows of different threads run in parallel. A flow that several threads share takes one call at a time.
 """
 
 from __future__ import annotations
@@ -47,15 +47,15 @@ __all__ = [
     "Refused", "DescriptionRefused", "ChannelRefused", "FlagRefused", "InputEnded", "FlowClosed", "OutOfMemory",
 ]  # fmt: skip
 
-# The least version of the library that this module calls, and the first that it may not: 0.1.*.
+# The versions of the library that this module calls: 0.1.*.
 VERSIONS = range(100, 200)
-# How many entries a flow makes before this module looks again, and how many words move at once.
+# How many entries a flow makes before this module feeds again, and how many words move at once.
 STRETCH = 1 << 20
 BATCH = 4096
 
 
 class Number(enum.Enum):
-    """Why a call was refused. Numbers up to 17 are the faults of a description (docs/format.md)."""
+    """Why a call failed. Numbers up to 17 are the faults of a description (docs/format.md)."""
 
     TOML = 1
     KEYS = 2
@@ -89,15 +89,15 @@ class Pause(enum.Enum):
     """How a flow stands."""
 
     CUT = 0
-    "It can go on."
+    "It may continue."
     STARVED = 1
-    "It waits for a word of an empty input: feed it or end it."
+    "No process can continue, and one waits for a word of an empty input: feed or end it."
     BLOCKED = 2
-    "It waits for room in a full output: drain it."
+    "Otherwise, no process can continue, and one waits for room in a full output: drain it."
     TERMINATED = 64
     "Each process has stopped."
     DEADLOCK = 65
-    "No process goes on, and some wait for words that never come."
+    "No process can continue, and some wait for words that never come."
     CEILING = 66
     "A channel at its greatest capacity would have to grow."
 
@@ -143,30 +143,30 @@ _MEANINGS = {
 
 
 class Refused(Exception):
-    """A call was refused; nothing has changed but what its exception says."""
+    """A call failed; nothing changed except what its exception says."""
 
     def __init__(self, number: Number, message: str = "", taken: int = 0) -> None:
         self.number = number
         "Why."
         self.taken = taken
-        "How many words of this call an input took before."
+        "How many words of this call an input took before it failed."
         super().__init__(message or _MEANINGS[self.number])
 
 
 class DescriptionRefused(Refused, ValueError):
-    """The description is refused. The message says what is wrong, and where."""
+    """The description has a fault. The message says what is wrong, and where."""
 
 
 class ChannelRefused(Refused, LookupError):
-    """A channel is not there, or can't be fed or drained."""
+    """A channel does not exist, or can't be fed or drained."""
 
 
 class FlagRefused(Refused, ValueError):
-    """A word for a channel of flags is neither 0 nor 1. Those before it were fed; it and those after it were not."""
+    """A word for a channel of flags is neither 0 nor 1. Words before it were fed; it and later ones were not."""
 
 
 class InputEnded(Refused, ValueError):
-    """Words for an input that has ended."""
+    """The input has ended."""
 
 
 class FlowClosed(Refused, ValueError):
@@ -174,7 +174,7 @@ class FlowClosed(Refused, ValueError):
 
 
 class OutOfMemory(Refused, MemoryError):
-    """A request for memory failed. The flow is as it was, and may be called again."""
+    """Out of memory. The flow is unchanged, and may be called again."""
 
 
 def _refused(number: int, message: str = "", taken: int = 0) -> Refused:
@@ -223,7 +223,7 @@ _loaded: Optional[ctypes.CDLL] = None
 
 
 def _places() -> Iterator[str]:
-    """Where the library may be, in order."""
+    """Yields the paths at which the library may be, in order."""
     named = os.environ.get("HOXBUREN_LIB")
     if named:
         yield os.path.join(named, "libhoxburen.so") if os.path.isdir(named) else named
@@ -264,8 +264,8 @@ def _load() -> ctypes.CDLL:
 
 
 def _told(call: Callable[..., int]) -> Tuple[int, str]:
-    """The number that a call answers, and the text that it writes: `call` is given a buffer, its length and where the
-    length of the text goes. It is called again with a longer buffer if the text had no room."""
+    """Returns the number that a call answers, and the text that it writes. `call` gets a buffer, its length, and a
+    pointer for the text's length. Calls again with a longer buffer if the text did not fit."""
     room = 1024
     while True:
         text, length = ctypes.create_string_buffer(room), ctypes.c_size_t()
@@ -297,7 +297,7 @@ class _Buffer(ctypes.Structure):
 
 
 class _Words:
-    """The words of a buffer: where they are, and how many, while it is entered."""
+    """The words of a buffer: their address and number, while entered."""
 
     def __init__(self, view: memoryview) -> None:
         self._view, self._raw, self.count = view, _Buffer(), len(view)
@@ -313,7 +313,7 @@ class _Words:
 
 
 def _view(words: Any, to_write: bool = False) -> Optional[memoryview]:
-    """The words of an object with the buffer protocol; None if it has none."""
+    """Returns the words of an object with the buffer protocol; None if it has none."""
     try:
         view = memoryview(words)
     except TypeError:
@@ -335,7 +335,7 @@ _IS_LITTLE = array("H", [1]).tobytes() == b"\1\0"
 
 
 def _words(words: Iterable[int]) -> memoryview:
-    """The words of a buffer, as they are, or of an iterable, in an array."""
+    """Returns the words of a buffer as they are, those of an iterable in an array."""
     view = _view(words)
     if view is not None:
         return view
@@ -350,7 +350,7 @@ def _words(words: Iterable[int]) -> memoryview:
 
 
 class _Queue:
-    """Words that wait, in arrays."""
+    """Waiting words, in arrays."""
 
     def __init__(self) -> None:
         self._parts: Deque[array[int]] = deque()
@@ -369,7 +369,7 @@ class _Queue:
         self._first, self._count = 0, 0
 
     def front(self) -> memoryview:
-        """The words of the first part, of which some wait."""
+        """Returns the waiting words of the first part."""
         return memoryview(self._parts[0])[self._first :]
 
     def drop(self, count: int) -> None:
@@ -402,10 +402,10 @@ class Input:
         return f"<hoxburen.Input {self.name}>"
 
     def feed(self, words: Iterable[int]) -> None:
-        """Feeds words, in order. Those that have no room, as the network stands, wait here until it has gone on.
+        """Feeds words, in order. Words that don't fit wait here until the network has advanced.
 
-        A word for a channel of flags is 0 or 1 (or False or True): `FlagRefused` is raised by the call that comes to
-        another one, which may be a later one; it and the words that waited behind it are dropped.
+        A word for a channel of flags is 0 or 1 (or False or True). The call that reaches another word, perhaps a later
+        call, raises `FlagRefused`; it and the words waiting behind it are dropped.
         """
         view = _words(words)
         with self._flow._lock:
@@ -414,7 +414,7 @@ class Input:
             self._queue.put(array("Q", view[fed:].tobytes()))
 
     def offer(self, words: Iterable[int]) -> int:
-        """Feeds as many of the words as there is room for now, and returns how many. The network does not go on."""
+        """Feeds as many of the words as fit now, and returns how many. The network does not advance."""
         view = _words(words)
         with self._flow._lock:
             self._refuse_if_over()
@@ -422,7 +422,7 @@ class Input:
             return 0 if self._queue else self._flow._feed(self, view)
 
     def end(self) -> None:
-        """Says that nothing more will be fed."""
+        """Ends the input: `feed` and `offer` then fail. Waiting words are still fed."""
         with self._flow._lock:
             self._flow._check_open()
             self._is_over = True
@@ -444,28 +444,28 @@ class Input:
 
     @property
     def may_feed(self) -> bool:
-        """Whether it takes a word now: it has not ended, and has room."""
+        """Whether it takes a word now: none wait, and it has room and has not ended."""
         return not self._queue and bool(self._flow._ask("hox_may_feed", self._place, ctypes.c_uint32()))
 
     @property
     def is_starved(self) -> bool:
-        """Whether it is empty, and a process waits for a word of it."""
+        """Whether it is empty and a process waits for a word of it."""
         return bool(self._flow._ask("hox_waits_for_input", self._place, ctypes.c_uint32()))
 
     @property
     def held(self) -> int:
-        """How many words the channel holds."""
+        """The number of words in the channel."""
         return self._flow._fill("hox_input_fill", self._place)[0]
 
     @property
     def capacity(self) -> int:
-        """How many words the channel may hold now."""
+        """The channel's current capacity."""
         return self._flow._fill("hox_input_fill", self._place)[1]
 
 
 class Output:
-    """An output of a flow. To iterate over it yields the words that come out, as numbers from 0 to 2^64 - 1: the network
-    goes on meanwhile. The iteration ends where no more words come unless an input is fed."""
+    """An output of a flow. Iterating over it yields its words, as numbers from 0 to 2^64 - 1, and runs the network. The
+    iteration ends when no more words come unless an input is fed."""
 
     def __init__(self, flow: Flow, name: str, place: int, queue: Optional[_Queue] = None, code: str = "Q") -> None:
         self._flow, self._place, self._code = flow, place, code
@@ -478,7 +478,7 @@ class Output:
 
     @property
     def signed(self) -> Output:
-        """The same output, with words as numbers from -2^63 to 2^63 - 1."""
+        """The output with words as numbers from -2^63 to 2^63 - 1."""
         return Output(self._flow, self.name, self._place, self._queue, "q")
 
     def __iter__(self) -> Iterator[int]:
@@ -492,8 +492,8 @@ class Output:
             yield word - (1 << 64) if self._code == "q" and word >> 63 else word
 
     def drain(self, most: Optional[int] = None) -> array[int]:
-        """Returns the words that come out, at most so many, in a new array of "Q" (of "q" for `signed`). The network goes on
-        until there are so many, or no more come unless an input is fed. Of a network that writes for ever, say how many."""
+        """Returns at most `most` words in a new array of "Q" (of "q" for `signed`). Runs the network until it has that
+        many, or no more come unless an input is fed. If the network writes forever, give a limit."""
         words = array(self._code)
         while most is None or len(words) < most:
             with self._flow._lock:
@@ -508,13 +508,13 @@ class Output:
         return words
 
     def drain_into(self, buffer: Any) -> int:
-        """Moves words that come out to the front of a buffer, until it is full or no more come unless an input is fed, and
-        returns how many. The buffer is writable, and its items are integers of 64 bits."""
+        """Moves words to the front of a buffer, until it is full or no more come unless an input is fed, and returns
+        how many. The buffer is writable, and its items are 64-bit integers."""
         return self._fill_up(buffer, self._flow._go_on)
 
     def poll(self, buffer: Any) -> int:
-        """Moves the words that are there now to the front of a buffer, as far as it is long, and returns how many. The
-        network does not go on."""
+        """Moves the words that are there now to the front of a buffer, as many as fit, and returns how many. The
+        network does not advance."""
         return self._fill_up(buffer, lambda _: False)
 
     def _fill_up(self, buffer: Any, go_on: Any) -> int:
@@ -540,7 +540,7 @@ class Output:
 
     @property
     def is_full(self) -> bool:
-        """Whether it is full, and a process waits for room in it."""
+        """Whether it is full and a process waits for room in it."""
         return bool(self._flow._ask("hox_waits_for_output", self._place, ctypes.c_uint32()))
 
     @property
@@ -550,17 +550,17 @@ class Output:
 
     @property
     def held(self) -> int:
-        """How many words the channel holds."""
+        """The number of words in the channel."""
         return self._flow._fill("hox_output_fill", self._place)[0]
 
     @property
     def capacity(self) -> int:
-        """How many words the channel may hold now."""
+        """The channel's current capacity."""
         return self._flow._fill("hox_output_fill", self._place)[1]
 
 
 class Flow:
-    """A network at work, of a description's text. `open` makes one, and `with` closes it."""
+    """The network of a description's text, fed, run and drained. `open` makes one, and `with` closes it."""
 
     def __init__(self, text: Union[str, bytes], inputs: Iterable[str], outputs: Iterable[str]) -> None:
         self._lock = threading.RLock()
@@ -593,14 +593,14 @@ class Flow:
         return f"<hoxburen.Flow {'closed' if self.is_closed else names}>"
 
     def __getitem__(self, name: str) -> Any:
-        """The input or the output of this name."""
+        """Returns the input or the output with this name."""
         found = self.inputs.get(name) or self.outputs.get(name)
         if found is None:
             raise ChannelRefused(Number.NO_CHANNEL, f"no input or output has the name {name!r}; there are {', '.join([*self.inputs, *self.outputs])}")
         return found
 
     def close(self) -> None:
-        """Closes the flow, and gives its memory back. A flow that is closed stays so."""
+        """Closes the flow and frees its memory. Does nothing if it is closed."""
         with self._lock:
             self._library.hox_close(self._session)
 
@@ -610,35 +610,35 @@ class Flow:
         return not self._session.session
 
     def advance(self, most: int = (1 << 64) - 1) -> Pause:
-        """Goes on by at most so many entries, and says why it came back. (An entry is a word read or written, a process's
-        stop or a channel's growth.) Of a network that goes on for ever, say how many."""
+        """Runs the flow for at most `most` entries, and returns why it stopped. (An entry is a word read or written, a
+        process's stop or a channel's growth.) If the network runs forever, give a limit."""
         with self._lock:
             return self._advance(most)
 
     @property
     def verdict(self) -> Pause:
-        """How the flow stands, without going on. `CUT` is also told where only `advance` finds what comes of it."""
+        """How the flow stands, without running it. `CUT` may mean that only `advance` finds what follows."""
         return Pause(self._ask("hox_verdict", None, ctypes.c_uint32()))
 
     @property
     def entries(self) -> int:
-        """How many entries the flow has made."""
+        """The number of entries that the flow has made."""
         return self._fill("hox_entries", None)[0]
 
     @property
     def growths(self) -> int:
-        """How many of them were growths of channels."""
+        """How many of the entries were growths of channels."""
         return self._fill("hox_entries", None)[1]
 
     def report(self) -> str:
-        """Where the flow, each process and each channel stands, a line each."""
+        """Returns how the flow, each process and each channel stands, in lines."""
         with self._lock:
             number, text = _told(lambda *out: self._library.hox_report(self._session, *out))
         if number:
             raise _refused(number)
         return text
 
-    # What follows is called with the lock held, but for _ask and _fill.
+    # The methods below need the lock, except _ask and _fill, which take it.
 
     def _check_open(self) -> None:
         if self.is_closed:
@@ -678,7 +678,7 @@ class Flow:
         return int(fed.value)
 
     def _feed_on(self, to: Input, view: memoryview) -> int:
-        """Feeds words behind those that wait, as long as the network takes some by going on. Returns how many were fed."""
+        """Feeds words behind those that wait, while the advancing network takes some. Returns how many were fed."""
         done = 0
         self._feed_waiting(to)
         while not to._queue and done < len(view):
@@ -695,7 +695,7 @@ class Flow:
         return done
 
     def _feed_waiting(self, to: Input) -> bool:
-        """Feeds words that wait, as many as there is room for; then ends the input, if it is over. Whether that did something."""
+        """Feeds waiting words that fit; then ends the input if `end` was called. Returns whether it did something."""
         done = False
         while to._queue:
             try:
@@ -723,20 +723,20 @@ class Flow:
         return int(drained.value)
 
     def _drain(self, place: int, room: int) -> array[int]:
-        """The words that an output holds, at most so many."""
+        """Returns the words of an output, at most `room`."""
         words = array("Q", bytes(8 * room))
         del words[self._drain_to(place, words.buffer_info()[0], room) :]
         return words
 
     def _keep(self, output: Output) -> bool:
-        """Moves the words of a full output for which a process waits to those that wait here. Whether it did."""
+        """Moves the words of a full output with a waiting writer to its queue. Returns whether it did."""
         if not self._ask("hox_waits_for_output", output._place, ctypes.c_uint32()):
             return False
         output._queue.put(self._drain(output._place, self._fill("hox_output_fill", output._place)[0]))
         return True
 
     def _go_on(self, output: Output) -> bool:
-        """Goes on until this output holds a word. False if none comes unless more is fed."""
+        """Runs the flow until this output holds a word. False if none comes unless more is fed."""
         while not self._fill("hox_output_fill", output._place)[0]:
             pause = self._advance(STRETCH)
             done = [self._feed_waiting(it) for it in self.inputs.values()]
@@ -748,7 +748,7 @@ class Flow:
 
 
 class Run(NamedTuple):
-    """A run of a network from its start to its end."""
+    """A run of a network from start to end."""
 
     end: End
     "How it ended."
@@ -760,7 +760,7 @@ Source = Union[str, bytes, "os.PathLike[str]"]
 
 
 def _text(source: Source) -> bytes:
-    """A description: a text has a line feed, and else a string is the path of a file."""
+    """Returns the description: a source with a line feed is the text, any other the path of a file."""
     if isinstance(source, bytes) and b"\n" in source:
         return source
     if isinstance(source, str) and "\n" in source:
@@ -771,7 +771,7 @@ def _text(source: Source) -> bytes:
 
 
 def _listed(names: Iterable[str], number: Number) -> List[str]:
-    """The names of channels, each of which can be one."""
+    """Returns the names of channels, if each is a valid name and none is repeated."""
     listed = [names] if isinstance(names, str) else list(names)
     for name in listed:
         if not name.replace("_", "a").isalnum() or not name.isascii():
@@ -795,11 +795,11 @@ def _channels(text: bytes) -> List[str]:
 
 
 def open(source: Source, inputs: Optional[Iterable[str]] = None, outputs: Optional[Iterable[str]] = None) -> Flow:
-    """Opens a flow: the network of a description, at its start.
+    """Opens a flow at the start of the network of a description.
 
-    source is the path of a file, or the text itself, which has several lines. inputs and outputs name the channels that
-    you will feed and drain; if they are not said, they are all that can be fed, and all others that can be drained. A
-    channel that you don't name as an output is read by its own reader, and what it carries is lost.
+    `source` is the path of a file, or the text itself, which has several lines. `inputs` and `outputs` name the
+    channels to feed and to drain; by default, all that can be fed, and all others that can be drained. A channel that
+    you don't name as an output is read by its own reader, and its words are lost.
 
     Raises DescriptionRefused, ChannelRefused, OutOfMemory, and OSError for a file that can't be read.
     """
@@ -815,7 +815,7 @@ def open(source: Source, inputs: Optional[Iterable[str]] = None, outputs: Option
 
 
 def check(source: Source) -> None:
-    """Checks a description. Raises DescriptionRefused if something is wrong with it, OutOfMemory, or OSError."""
+    """Checks a description. Raises DescriptionRefused if it has a fault, OutOfMemory, or OSError."""
     text = _text(source)
     number, message = _told(lambda *out: _library().hox_check(text, len(text), *out))
     if number:
@@ -823,7 +823,7 @@ def check(source: Source) -> None:
 
 
 def run(source: Source) -> Run:
-    """Runs the network of a description from its start to its end, within its budget."""
+    """Runs the network of a description from start to end, within its budget. Raises the errors of `check`."""
     text = _text(source)
     number, told = _told(lambda *out: _library().hox_run(text, len(text), *out))
     if number < End.TERMINATED.value:
@@ -832,5 +832,5 @@ def run(source: Source) -> Run:
 
 
 def version() -> int:
-    """The version of the library: 10000 * major + 100 * minor + patch."""
+    """Returns the version of the library: 10000 * major + 100 * minor + patch."""
     return int(_library().hox_version())

@@ -1,4 +1,4 @@
--- The numbers of what calls are answered with.
+-- The numbers of answers, ends and pauses.
 use Rattle.std.specs.Prelude.{ℕ}
 use Rattle.kpn_model.specs.declared.history.End.{End}
 use Rattle.kpn_model.specs.declared.history.End.TheVariants.{Terminated, Deadlock, Ceiling, Budget, Memory}
@@ -8,7 +8,7 @@ use Rattle.kpn_flow.specs.declared.pause.Pause.TheVariants.{Cut, Starved, Blocke
 use Rattle.hox_handle.specs.declared.answers.Answer.{Answer}
 use Rattle.hox_handle.specs.declared.answers.Answer.TheVariants.{Done, Description, Closed, Open, NoChannel, Ended, NoFlag, NoText, NoInput, NoOutput, Twice}
 
--- 0 if all went well; for a fault of the description its number; and else one of 32 to 40
+-- 0 for success; the fault's number; else 32 to 40
 abbrev pub answer_number : Answer → ℕ
 answer_number Done = 0
 answer_number (Description fault) = number_of_fault fault

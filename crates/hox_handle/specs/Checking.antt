@@ -1,4 +1,4 @@
--- What comes of a text that is checked.
+-- What checking a text answers.
 use Rattle.std.specs.Prelude.{◌≡◌, ℕ, List, Result, Ok, Err, false}
 use Rattle.kpn_sketch.specs.declared.fault.NetFault.{NetFault}
 use Rattle.kpn_model.specs.Network.{Network}
@@ -8,7 +8,7 @@ use Rattle.hox_handle.specs.declared.answers.Answer.{Answer}
 use Rattle.hox_handle.specs.declared.answers.Answer.TheVariants.{Done, Description}
 use Rattle.hox_handle.specs.Opening.{all_named, all_ports}
 
--- what is loaded of a text, whole, as it is meant
+-- the result of loading the whole text, with its sketch completed
 abbrev pub LoadsText : List ℕ → Result Network NetFault → Type 0
 LoadsText text loaded = LoadsChanged (as_meant all_named all_ports text) all_named all_ports false text loaded
 
@@ -16,6 +16,6 @@ abbrev pub answer_of_loaded : Result Network NetFault → Answer
 answer_of_loaded (Ok net) = Done
 answer_of_loaded (Err fault) = Description fault
 
--- the text describes a network, or has the fault that is answered
+-- the text describes a network, or has the answered fault
 abbrev pub Checks : List ℕ → Answer → Type 0
 Checks text answer = (loaded : Result Network NetFault) × LoadsText text loaded × (answer ≡ answer_of_loaded loaded)

@@ -1,9 +1,9 @@
--- The names in a text: its words, with white space between them.
+-- The names in a text: its words, separated by white space.
 use Rattle.std.specs.Prelude.{◌≡◌, ◌<◌, ℕ, List, [], ◌∷◌, ◌++◌, length}
 use Rattle.core.specs.Char.{is_whitespace, is_not_whitespace}
 use Rattle.core.specs.Str.{NoCharPasses, EmptyOrStartsWithPassing}
 
--- white space is passed over, and a word comes off the front of a text, up to white space or to the text's end
+-- `word` follows leading white space, and ends at white space or at the text's end
 pub record TakesWord (text word rest : List ℕ) : Type 0 where
   pub gap : List ℕ
   pub text_is : text ≡ gap ++ (word ++ rest)
@@ -13,12 +13,11 @@ pub record TakesWord (text word rest : List ℕ) : Type 0 where
   pub more : List ℕ
   pub ends : EmptyOrStartsWithPassing is_whitespace rest more
 
--- these words come off, one after the other
+-- these words are taken, one after another
 abbrev pub TakesWords : List ℕ → List (List ℕ) → List ℕ → Type 0
 TakesWords text [] rest = rest ≡ text
 TakesWords text (w ∷ ws) rest = (mid : List ℕ) × TakesWord text w mid × TakesWords mid ws rest
 
--- these are all the words of a text
 pub record AreNames (text : List ℕ) (names : List (List ℕ)) : Type 0 where
   pub rest : List ℕ
   pub taken : TakesWords text names rest

@@ -1,4 +1,4 @@
--- How a session is opened, and why one is not.
+-- How a session is opened, and why it is not.
 use Rattle.std.specs.Prelude.{◌≡◌, ◌⊎◌, ℕ, List, Option, Err, false, IsUtf8}
 use Rattle.kpn_model.specs.declared.kinds.Card.{Card}
 use Rattle.kpn_model.specs.declared.kinds.Signature.{Signature}
@@ -24,7 +24,7 @@ use Rattle.hox_handle.specs.declared.opening.OpenFault.TheVariants.{NoText, Unop
 use Rattle.hox_handle.specs.Names.{AreNames}
 use Rattle.hox_handle.specs.Sessions.{flow_kinds}
 
--- what the names and the cards of all kinds mean; and besides of the readers that stop at once
+-- names and signatures of all kinds; below, those of readers that stop at once too
 abbrev pub all_named : List ℕ → Option (ℕ × ℕ)
 all_named = both_named standard_named signal_named
 
@@ -37,22 +37,21 @@ flow_named = both_named all_named exit_named
 abbrev pub flow_ports : Card → Option Signature
 flow_ports = both_ports all_ports exit_ports
 
--- the sketch of a text as it is meant, in which what only reads a channel that is drained stops at once
+-- the completed sketch, in which processes that only read a drained channel stop at once
 abbrev pub flow_sketch : List ℕ → List (List ℕ) → Sketch → Sketch
 flow_sketch text drained described = with_exits drained (as_meant all_named all_ports text described)
 
--- a text describes this sketch, as it is meant
+-- a text describes this sketch, once completed
 abbrev pub IsReadAs : List ℕ → Sketch → Type 0
 IsReadAs text sketch = (described : Sketch) × Describes text described × (sketch ≡ as_meant all_named all_ports text described)
 
--- a flow stands at the start of the network of a text; the channels of the first names are its inputs, each at the place of its name,
--- and those of the others its outputs
+-- a flow at the start of the text's network; each input or output has its name's place
 pub record OpensBetween (text : List ℕ) (fed drained : List (List ℕ)) (start : FlowView) : Type 0 where
   pub described : Sketch
   pub describes : Describes text described
   pub started : IsStarted flow_kinds (net_of flow_named (flow_sketch text drained described)) fed drained start
 
--- the same, with the names in two texts
+-- the names are given as two texts
 pub record Opens (text inputs outputs : List ℕ) (start : FlowView) : Type 0 where
   pub fed : List (List ℕ)
   pub drained : List (List ℕ)
@@ -60,12 +59,12 @@ pub record Opens (text inputs outputs : List ℕ) (start : FlowView) : Type 0 wh
   pub drained_are : AreNames outputs drained
   pub between : OpensBetween text fed drained start
 
--- the network of the text can't be fed, or drained, so
+-- the text's network can't be fed or drained at these channels
 abbrev pub IsEndFault : List ℕ → List (List ℕ) → List (List ℕ) → StreamFault → Type 0
 IsEndFault text fed drained fault =
     (described : Sketch) × Describes text described × IsStreamFault flow_kinds (net_of flow_named (flow_sketch text drained described)) (λ _. ⊥) fed drained fault
 
--- why it is not opened between channels of these names
+-- why no flow is opened between channels of these names
 abbrev pub IsUnopened : List ℕ → List (List ℕ) → List (List ℕ) → StreamFault → Type 0
 IsUnopened text fed drained (Description fault) = LoadsChanged (flow_sketch text drained) flow_named flow_ports false text (Err fault)
 IsUnopened text fed drained Memory = Unit {0}
@@ -73,20 +72,19 @@ IsUnopened text fed drained (Input fault) = IsEndFault text fed drained (Input f
 IsUnopened text fed drained (Output fault) = IsEndFault text fed drained (Output fault)
 IsUnopened text fed drained Twice = IsEndFault text fed drained Twice
 
--- why it is not opened
+-- why no session is opened
 abbrev pub IsOpenFault : List ℕ → List ℕ → List ℕ → OpenFault → Type 0
 IsOpenFault text inputs outputs NoText = (IsUtf8 inputs → ⊥) ⊎ (IsUtf8 outputs → ⊥)
 IsOpenFault text inputs outputs (Unopened Memory) = Unit {0}
 IsOpenFault text inputs outputs (Unopened fault) =
     (fed : List (List ℕ)) × (drained : List (List ℕ)) × AreNames inputs fed × AreNames outputs drained × IsUnopened text fed drained fault
 
--- a text has no names: it is not UTF-8, or memory was refused
+-- why a text has no names: it is not UTF-8, or out of memory
 abbrev pub IsNoNames : List ℕ → OpenFault → Type 0
 IsNoNames text NoText = IsUtf8 text → ⊥
 IsNoNames text (Unopened Memory) = Unit {0}
 IsNoNames text (Unopened _) = ⊥
 
--- what is answered
 abbrev pub answer_of_stream : StreamFault → Answer
 answer_of_stream (Description fault) = AnswerOf fault
 answer_of_stream (Input NoNameMemory) = AnswerOf NoMemory

@@ -1,4 +1,4 @@
--- The text of where a flow stands.
+-- The report of how a flow stands.
 use Rattle.std.specs.Prelude.{◌≡◌, ℕ, Bool, true, false, codes, decimal, List, ◌++◌, length, slice_index_or}
 use Rattle.kpn_model.specs.declared.history.Place.{Place}
 use Rattle.kpn_model.specs.declared.history.Place.TheVariants.{Stopped, Reads, Writes}
@@ -14,20 +14,17 @@ use Rattle.kpn_flow.specs.declared.pause.Pause.TheVariants.{Cut, Starved, Blocke
 use Rattle.kpn_flow.specs.Flows.{FlowView}
 use Rattle.kpn_flow.specs.Stands.{IsStand}
 
--- how the flow stands
 abbrev pub stand_line : Pause → List ℕ
 stand_line Cut = codes "goes on\n"
 stand_line Starved = codes "starved\n"
 stand_line Blocked = codes "blocked\n"
 stand_line (Over end) = end_line end
 
--- where a process is that rests
 abbrev pub place_words : Network → Place → List ℕ
 place_words net Stopped = codes "stopped"
 place_words net (Reads c) = codes "reads " ++ channel_name net c
 place_words net (Writes c) = codes "writes " ++ channel_name net c
 
--- what a process does: it goes on if it is busy, and else it rests
 abbrev pub process_words : Network → Bool → Place → List ℕ
 process_words net true place = codes "goes on"
 process_words net false place = place_words net place
@@ -42,16 +39,15 @@ channel_line net M c = codes "channel " ++ channel_name net c ++ codes " left " 
 abbrev pub count_line : FlowView → List ℕ
 count_line s = codes "entries " ++ decimal s.counts.entries ++ codes " growths " ++ decimal s.counts.growths ++ codes "\n"
 
--- the place of each process
 abbrev pub places : FlowView → List Place
 places s = each_process s.network (λ p. place_of s.network p (parked_answer (standing s.standings p)))
 
--- how a flow stands that stands so; where each process is, what each channel holds, and what was counted
+-- how the flow stands, where each process is, what each channel holds, and the counts
 abbrev pub flow_text : FlowView → Pause → List ℕ
 flow_text s stand =
     stand_line stand ++ lines_upto (process_line s.network s.standings (places s)) (length s.network.processes) ++ lines_upto (channel_line s.network s.state) (length s.network.channels) ++ count_line s
 
--- the text tells how the flow stands
+-- the text reports how the flow stands
 pub record TellsStand (kinds : Family) (s : FlowView) (text : List ℕ) : Type 0 where
   pub stand : Pause
   pub stands : IsStand kinds s.network s.unended s.outputs s.state s.standings stand

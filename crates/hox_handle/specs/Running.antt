@@ -1,4 +1,4 @@
--- What comes of a text that is run.
+-- What running a text returns.
 use Rattle.std.specs.Prelude.{◌≡◌, ℕ, true, List, Option, None, Result, Ok, Err, MatchResult, string_bytes}
 use Rattle.kpn_sketch.specs.declared.fault.NetFault.{NetFault}
 use Rattle.kpn_model.specs.declared.history.Entry.{Entry}
@@ -19,8 +19,8 @@ use Rattle.hox_handle.specs.Checking.{LoadsText}
 abbrev pub all_kinds : Family
 all_kinds = both_family standard signals
 
--- a run from the start ended for a cause that justifies its end; it took no more room than the network needs, its streams approach the
--- least solution of the network's equations, and this is its report; if the run is over, every run that is has the same
+-- a run from the start has a justified end; it takes least room, its streams approach the least solution of
+-- the network's equations, and this is its report; if it is over, every run that is over has the same report
 pub record IsRunTold (net : Network) (told : Told) : Type 0 where
   pub history : List Entry
   pub state : State
@@ -31,12 +31,11 @@ pub record IsRunTold (net : Network) (told : Told) : Type 0 where
   pub text_is : string_bytes told.report ≡ report_text all_kinds net told.end history state None
   pub every : has_report told.end ≡ true → (F : List Entry) (N : State) (b : End) → IsFinal all_kinds net F N b → string_bytes told.report ≡ report_text all_kinds net b F N None
 
--- the network of the text was run
 pub record RunsTo (text : List ℕ) (told : Told) : Type 0 where
   pub net : Network
   pub loads : LoadsText text (Ok net)
   pub run : IsRunTold net told
 
--- it was run; or it has this fault, or memory was refused
+-- it was run; or it has this fault; or out of memory
 abbrev pub Runs : List ℕ → Result Told NetFault → Type 0
 Runs text result = MatchResult result (RunsTo text) (λ fault. LoadsText text (Err fault))

@@ -1,4 +1,5 @@
--- What the calls of a session do. A session is seen as its flow, and a channel is named by its place among the inputs or the outputs.
+-- What the calls of a session do. A session is seen as its flow, a channel as its place among the inputs or
+-- the outputs.
 use Rattle.std.specs.Prelude.{◌≡◌, ◌<◌, ℕ, ◌&&◌, Bool, List, nat_lt, length, slice_get, Option, Some, None, MatchOption}
 use Rattle.kpn_model.specs.Network.{Family, Network, channel_of, number_of_channel}
 use Rattle.kpn_model.specs.Semantics.{tokens, capacity}
@@ -14,46 +15,45 @@ use Rattle.hox_handle.specs.declared.answers.Answer.TheVariants.{Done, NoChannel
 use Rattle.hox_handle.specs.declared.words.Moved.{Moved}
 use Rattle.hox_handle.specs.Words.{Feeds, Drains}
 
--- all that a description may use, and readers that stop at once
+-- all kinds of descriptions, and readers that stop at once
 abbrev pub flow_kinds : Family
 flow_kinds = both_family (both_family standard signals) exits
 
 abbrev pub nothing_for : Answer → Moved
 nothing_for answer = record { count = 0; answer = answer }
 
--- words are fed into the input at this place; where there is none, nothing changes
+-- words are fed into the input at this place; without one nothing changes
 abbrev pub FeedsAt : FlowView → FlowView → ℕ → List ℕ → Moved → Type 0
 FeedsAt s t place words moved = MatchOption (slice_get s.inputs place) ((moved ≡ nothing_for NoChannel) × (t ≡ s)) (λ c. Feeds flow_kinds s t c words moved)
 
--- words are drained from the output at this place; where there is none, nothing changes
+-- words are drained from the output at this place; without one nothing changes
 abbrev pub DrainsAt : FlowView → FlowView → ℕ → List ℕ → List ℕ → Moved → Type 0
 DrainsAt s t place before after moved =
     MatchOption (slice_get s.outputs place) ((moved ≡ nothing_for NoChannel) × (t ≡ s) × (after ≡ before)) (λ c. Drains flow_kinds s t c before after moved.count × (moved.answer ≡ Done))
 
--- the input at this place has ended; where there is none, nothing changes
+-- the input at this place has ended; without one nothing changes
 abbrev pub EndsAt : FlowView → FlowView → ℕ → Answer → Type 0
 EndsAt s t place answer = MatchOption (slice_get s.inputs place) ((answer ≡ NoChannel) × (t ≡ s)) (λ c. (answer ≡ Done) × (t ≡ with_ended s c))
 
--- it goes on by at most so many entries, and comes back for this reason, as a flow does
+-- the flow runs for at most `most` entries, and returns for this reason
 pub record GoesOn (s t : FlowView) (most : ℕ) (pause : Pause) : Type 0 where
   pub same : IsSameFlow s t
   pub advances : Advances flow_kinds s.network s.unended s.outputs s.counts t.counts s.state t.state most pause
   pub told : TellWants flow_kinds t.network t.state t.standings pause
 
--- a token may be fed into c now: it has not ended, and is not full
 abbrev pub may_feed : FlowView → ℕ → Bool
 may_feed s c = is_among s.unended c && nat_lt (length (tokens s.state c)) (capacity s.state c)
 
--- how many tokens c holds, and how many it may hold now
+-- the number of tokens in c, and its current capacity
 abbrev pub fill : FlowView → ℕ → ℕ × ℕ
 fill s c = (length (tokens s.state c), capacity s.state c)
 
--- a name is that of the channel at this place of the list
+-- the channel at this place of the list has this name
 pub record IsNamedAt (net : Network) (channels : List ℕ) (name : List ℕ) (place : ℕ) : Type 0 where
   pub channel : ℕ
   pub at : slice_get channels place ≡ Some channel
   pub named : number_of_channel net name ≡ Some channel
 
--- a name is that of no channel of the list
+-- no channel of the list has this name
 abbrev pub IsNotNamed : Network → List ℕ → List ℕ → Type 0
 IsNotNamed net channels name = (place : ℕ) → IsNamedAt net channels name place → ⊥

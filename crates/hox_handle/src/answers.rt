@@ -1,4 +1,4 @@
-//! What calls are answered with, and the numbers of it.
+//! Answers of calls, and their numbers.
 ghost use Rattle.std.specs.Prelude.{◌≡◌};
 ghost use Rattle.hox_handle.specs.Answers.{answer_number, end_number, pause_number};
 
@@ -6,17 +6,17 @@ use kpn_flow::Pause;
 use kpn_model::End;
 use kpn_net::NetFault;
 
-/// What a call is answered with: all went well, or why it was refused.
+/// The answer to a call: success, or why it failed.
 #[derive(Clone, Copy, Debug, PartialEq, Eq)]
 pub enum Answer {
     Done,
-    /// The description has this fault; or memory was refused, as `NetFault::Memory` says it.
+    /// The description has this fault; `NetFault::Memory` means out of memory.
     Description(NetFault),
     /// The flow is closed.
     Closed,
-    /// The flow is open already.
+    /// The flow is already open.
     Open,
-    /// No input, or no output, is at this place or has this name.
+    /// No input or no output has this place or name.
     NoChannel,
     /// The input has ended.
     Ended,
@@ -24,16 +24,16 @@ pub enum Answer {
     NoFlag,
     /// The names are not UTF-8.
     NoText,
-    /// A channel to be fed does not exist, or its writer does more than to stop.
+    /// A channel to feed does not exist, or its writer does more than stop.
     NoInput,
-    /// A channel to be drained does not exist, or its reader does more than to read it.
+    /// A channel to drain does not exist, or its reader does more than read it.
     NoOutput,
     /// A channel is named twice.
     Twice,
 }
 
 impl Answer {
-    /// Returns the number of an answer: 0 if all went well, 1 to 17 for a fault of the description, and else 32 to 40.
+    /// Returns the number of an answer: 0 for success, 1 to 17 for a fault of the description, else 32 to 40.
     pub fn number(self) -> u32
         ensures { result ≡ answer_number self }
     {
@@ -53,7 +53,7 @@ impl Answer {
     }
 }
 
-/// Returns the number of a pause: 0 to 2, or that of an end.
+/// Returns the number of a pause: 0 to 2, or that of its end.
 pub fn pause_number(pause: Pause) -> u32
     ensures { result ≡ pause_number pause }
 {

@@ -1,4 +1,4 @@
-//! Checking a description.
+//! Checks a description.
 ghost use Rattle.hox_handle.specs.Checking.{Checks, LoadsText};
 
 use crate::answers::Answer;
@@ -6,7 +6,6 @@ use hox_network::{AllKinds, load_by_ports};
 use kpn_net::{Net, NetFault};
 use std::alloc::Global;
 
-/// The network of a description.
 pub(crate) fn net_of(alloc: Global, text: &[u8]) -> Result<Net<AllKinds>, NetFault>
     ensures { LoadsText text.now result }
 {
@@ -18,7 +17,7 @@ pub(crate) fn net_of(alloc: Global, text: &[u8]) -> Result<Net<AllKinds>, NetFau
     }
 }
 
-/// Checks a description. Returns `Done` if it describes a network, and else its fault.
+/// Checks a description. Returns `Done` if it describes a network, else its fault.
 pub fn check(alloc: Global, text: &[u8]) -> Answer
     ensures { Checks text.now result }
 {

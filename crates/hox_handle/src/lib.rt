@@ -1,6 +1,5 @@
-//! A flow for callers that speak no Rattle: words as numbers, channels by their places among the inputs or the outputs,
-//! texts for buffers, and all that may be wrong with a call as an answer with a number. Nothing here asks anything of its
-//! caller.
+//! Flows for callers in other languages. Channels have places among the inputs or the outputs; errors are
+//! answers with numbers. No public function has a `requires`.
 //!
 //! ```text
 //! let session = Session::open(alloc, text, inputs, outputs)?;

@@ -1,4 +1,4 @@
-//! Names of channels, in a text and of places.
+//! Finds channels by name, and names in a text.
 ghost use Rattle.std.specs.Prelude.{◌≡◌, IfOk, IfErr, IfSome, IfNone, IsUtf8};
 ghost use Rattle.hox_handle.specs.Names.{AreNames};
 ghost use Rattle.hox_handle.specs.Opening.{IsNoNames};
@@ -12,7 +12,6 @@ use kpn_network::Net;
 use std::alloc::{AllocError, Global};
 use std::str;
 
-/// The names in a text, in order, with white space between them.
 pub(crate) fn names_in(alloc: Global, bytes: &[u8]) -> Result<Vec<Text>, OpenFault>
     ensures ok { IfOk result (λ v. AreNames bytes.now v.items) }
     ensures fault { IfErr result (IsNoNames bytes.now) }
@@ -26,7 +25,6 @@ pub(crate) fn names_in(alloc: Global, bytes: &[u8]) -> Result<Vec<Text>, OpenFau
     }
 }
 
-/// The words of a text, in order.
 fn words_of(alloc: Global, text: &str) -> Result<Vec<Text>, AllocError>
     ensures { IfOk result (λ v. AreNames text.now v.items) }
 {
@@ -38,7 +36,6 @@ fn words_of(alloc: Global, text: &str) -> Result<Vec<Text>, AllocError>
     Ok(names)
 }
 
-/// The place in a list at which a channel of this name stands.
 fn place_named<K: Kinds>(net: &Net<K>, channels: &[usize], name: &[u8]) -> Option<usize>
     ensures some { IfSome result (IsNamedAt net.now channels.now name.now) }
     ensures none { IfNone result (IsUtf8 name.now → IsNotNamed net.now channels.now name.now) }

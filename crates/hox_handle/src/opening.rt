@@ -1,4 +1,4 @@
-//! Opening a session.
+//! Opens a session.
 ghost use Rattle.std.specs.Prelude.{◌≡◌, IfOk, IfErr};
 ghost use Rattle.kpn_sketch.specs.Description.{IsReadFault};
 ghost use Rattle.hox_handle.specs.Opening.{answer_of, answer_of_stream, IsOpenFault, IsReadAs, IsUnopened, Opens, OpensBetween};
@@ -13,17 +13,17 @@ use kpn_model::limits::LONGEST_TEXT;
 use kpn_net::{NetFault, Sketch, read_sketch};
 use std::alloc::Global;
 
-/// Why a session is not opened.
+/// Why a session was not opened.
 #[derive(Drop)]
 pub enum OpenFault {
     /// The names are not UTF-8.
     NoText,
-    /// The network that the text describes can't be fed and drained so; or the text describes none.
+    /// The text describes no network, or one that can't be fed and drained at these channels.
     Unopened(StreamFault),
 }
 
 impl OpenFault {
-    /// Returns what is answered.
+    /// Returns the answer for this fault.
     pub fn answer(&self) -> Answer
         ensures { result ≡ answer_of self.now }
     {
@@ -34,7 +34,6 @@ impl OpenFault {
     }
 }
 
-/// What is answered where a network can't be fed and drained.
 fn answer_of(fault: &StreamFault) -> Answer
     ensures { result ≡ answer_of_stream fault.now }
 {
@@ -51,12 +50,12 @@ fn answer_of(fault: &StreamFault) -> Answer
 }
 
 impl Session {
-    /// Opens a session: the network that a text describes, at its start, between the channels that will be fed and those
-    /// that will be drained, of which the names stand in two texts, with white space between them. What only reads a
-    /// channel that is drained stops at once.
+    /// Opens a session at the start of the network of `text`. `inputs` and `outputs` name the channels to
+    /// feed and to drain, separated by white space. A process that only reads a drained channel stops at
+    /// once.
     ///
-    /// Errors: names that are not UTF-8; a text that is longer than 1,048,576 bytes, or describes no network; a channel
-    /// that can't be fed, or drained, or is named twice; or memory was refused.
+    /// Errors: names that are not UTF-8; a text that is longer than 1,048,576 bytes or describes no network;
+    /// a channel that can't be fed or drained, or is named twice; out of memory.
     pub fn open(
         alloc: Global,
         text: &[u8],
@@ -75,7 +74,6 @@ impl Session {
     }
 }
 
-/// The session of the network of a text, between channels of these names.
 fn open_between(
     alloc: Global,
     text: &[u8],
@@ -105,7 +103,7 @@ fn open_between(
     }
 }
 
-/// The sketch of a text, as it is meant.
+/// The sketch of a text, completed by `sketch_by_ports`.
 fn sketch_of(alloc: Global, text: &[u8]) -> Result<Sketch, NetFault>
     ensures ok { IfOk result (IsReadAs text.now) }
     ensures fault { IfErr result (IsReadFault text.now) }

@@ -1,4 +1,4 @@
-//! The text of where a flow stands.
+//! Reports how a flow stands.
 ghost use Rattle.std.specs.Prelude.{◌≡◌, ◌++◌, ◌<◌, IfOk, OnOk, length, string_bytes};
 ghost use Rattle.kpn_model.specs.NamesAndLines.{lines_upto};
 ghost use Rattle.kpn_state.specs.Standings.{is_busy, standing};
@@ -17,10 +17,10 @@ use std::alloc::{AllocError, Global};
 use std::fmt::Write;
 
 impl Session {
-    /// Returns the text of where the flow stands: how it does, what each process does, what each channel holds and may
-    /// hold, and how many entries and growths there were.
+    /// Returns the report: how the flow stands, what each process does, the tokens and the capacity of each
+    /// channel, and the numbers of entries and growths.
     ///
-    /// Errors: memory was refused.
+    /// Errors: out of memory.
     pub fn report(&self, alloc: Global) -> Result<String, AllocError>
         ensures { IfOk result (λ text. TellsStand flow_kinds self.now (string_bytes text)) }
     {
@@ -36,7 +36,6 @@ impl Session {
     }
 }
 
-/// Appends the line that says how a flow stands.
 fn push_stand(out: &mut String, stand: Pause) -> Result<(), AllocError>
     ensures { OnOk result (string_bytes out.new ≡ string_bytes out.old ++ stand_line stand) }
 {
@@ -52,14 +51,12 @@ fn push_stand(out: &mut String, stand: Pause) -> Result<(), AllocError>
     })
 }
 
-/// Whether a process is ready, or out.
 fn is_busy(standings: &[Standing], p: usize) -> bool
     ensures { result ≡ is_busy (standing standings.now p) }
 {
     matches!(standings.get(p), Some(Standing::Ready | Standing::Out))
 }
 
-/// Appends the line of a process.
 fn push_process<K: Kinds>(
     out: &mut String,
     net: &Net<K>,
@@ -87,7 +84,6 @@ fn push_process<K: Kinds>(
     }
 }
 
-/// Appends the line of each process, in order.
 fn push_processes<K: Kinds>(
     out: &mut String,
     net: &Net<K>,
@@ -102,7 +98,6 @@ fn push_processes<K: Kinds>(
     Ok(())
 }
 
-/// Appends the line of a channel.
 fn push_channel<B: Body>(out: &mut String, flow: &Flow<B>, c: usize) -> Result<(), AllocError>
     ensures { OnOk result (string_bytes out.new ≡ string_bytes out.old ++ channel_line flow.now.network flow.now.state c) }
 {
@@ -111,7 +106,6 @@ fn push_channel<B: Body>(out: &mut String, flow: &Flow<B>, c: usize) -> Result<(
     write!(out, "channel {name} left {left} capacity {capacity}\n")
 }
 
-/// Appends the line of each channel, in order.
 fn push_channels<B: Body>(out: &mut String, flow: &Flow<B>) -> Result<(), AllocError>
     ensures { OnOk result (string_bytes out.new ≡ string_bytes out.old ++ lines_upto (channel_line flow.now.network flow.now.state) (length flow.now.network.channels)) }
 {
@@ -121,7 +115,6 @@ fn push_channels<B: Body>(out: &mut String, flow: &Flow<B>) -> Result<(), AllocE
     Ok(())
 }
 
-/// Appends the line of what was counted.
 fn push_counts<B: Body>(out: &mut String, flow: &Flow<B>) -> Result<(), AllocError>
     ensures { OnOk result (string_bytes out.new ≡ string_bytes out.old ++ count_line flow.now) }
 {

@@ -1,4 +1,4 @@
-//! Running the network of a description from its start to its end.
+//! Runs the network of a description.
 ghost use Rattle.std.specs.Prelude.{IfOk, IsSome};
 ghost use Rattle.hox_handle.specs.Running.{IsRunTold, Runs};
 
@@ -12,16 +12,16 @@ use kpn_net::{Net, NetFault};
 use kpn_report::{Tallied, places_of, text_of_entries};
 use std::alloc::{AllocError, Global};
 
-/// How a run ended, and its report.
+/// The end of a run, and its report.
 #[derive(Drop)]
 pub struct Told {
     pub end: End,
     pub report: String,
 }
 
-/// Runs the network of a description from its start to its end, in the calling thread, within the description's budget.
+/// Runs the network of a description from start to end, in the calling thread, within its budget.
 ///
-/// Errors: the fault of the description; or `Memory`, if memory was refused before the run or for the report.
+/// Errors: the fault of the description; `Memory` if out of memory before the run or for the report.
 pub fn run(alloc: Global, text: &[u8]) -> Result<Told, NetFault>
     ensures { Runs text.now result }
 {
@@ -32,7 +32,6 @@ pub fn run(alloc: Global, text: &[u8]) -> Result<Told, NetFault>
     }
 }
 
-/// Runs a network.
 fn run_net(alloc: Global, net: Net<AllKinds>) -> Result<Told, AllocError>
     ensures { IfOk result (IsRunTold net) }
 {
@@ -40,7 +39,6 @@ fn run_net(alloc: Global, net: Net<AllKinds>) -> Result<Told, AllocError>
     run_bodies(alloc, net, bodies)
 }
 
-/// Runs a network with these bodies.
 fn run_bodies(
     alloc: Global,
     net: Net<AllKinds>,
@@ -56,7 +54,6 @@ fn run_bodies(
     told_of(alloc, &machine.into_chronicle())
 }
 
-/// What is told of a run that ended.
 fn told_of(alloc: Global, chronicle: &Chronicle<AllKinds, Tallied>) -> Result<Told, AllocError>
     requires { IsSome chronicle.now.end }
     ensures { IfOk result (IsRunTold chronicle.now.network) }

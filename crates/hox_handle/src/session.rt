@@ -1,4 +1,4 @@
-//! A flow, and which of its channels are fed and drained.
+//! A flow with its inputs and outputs.
 ghost use Rattle.std.specs.Prelude.{◌≡◌, option_map, slice_get};
 ghost use Rattle.kpn_flow.specs.Stands.{IsStand};
 ghost use Rattle.kpn_flow.specs.Waits.{starves, holds_up};
@@ -12,10 +12,10 @@ use kpn_compute::{Both, CardBody};
 use kpn_flow::{Flow, Pause};
 use std::marker::Model;
 
-/// The kinds of a session's processes: all that a description may use, and readers that stop at once.
+/// The kinds of a session's processes: those of descriptions, and readers that stop at once.
 pub(crate) type FlowKinds = Both<AllKinds, Exits>;
 
-/// A flow, and the numbers of the channels that are fed and drained, in the order of their names. Contracts see the flow.
+/// A flow, and its fed and drained channels in the order in which `open` names them. Contracts see the flow.
 #[derive(Drop)]
 pub struct Session {
     pub(crate) flow: Flow<CardBody<FlowKinds>>,
@@ -35,10 +35,10 @@ impl Model for Session {
 }
 
 impl Session {
-    /// Feeds words into the input at a place, in order, as many as it has room for; on a channel of flags each is 0 or 1.
+    /// Feeds words into input `place`, in order, as many as fit. On a channel of flags each is 0 or 1.
     ///
-    /// Returns how many, and `Done` if all were fed or it is full, `NoFlag` if the next is no flag, `Ended` if the input
-    /// has ended, and `NoChannel` if there is none.
+    /// Returns the number fed and `Done` if all were fed or the input is full, `NoFlag` if the next word is
+    /// no flag, `Ended` if the input has ended, or `NoChannel` if there is none.
     pub fn feed(&mut self, place: usize, words: &[u64]) -> Moved
         ensures { FeedsAt self.old self.new place words.now result }
     {
@@ -48,10 +48,10 @@ impl Session {
         feed_words(&mut self.flow, input, words)
     }
 
-    /// Moves the first words of the output at a place to the front of a buffer, in order, as many as there are and as it
-    /// is long.
+    /// Moves words of output `place` to the front of a buffer, in order, until the output is empty or the buffer
+    /// is full.
     ///
-    /// Returns how many, and `Done`, or `NoChannel` if there is no such output.
+    /// Returns the number moved and `Done`, or `NoChannel` if there is none.
     pub fn drain(&mut self, place: usize, words: &mut [u64]) -> Moved
         ensures { DrainsAt self.old self.new place words.old words.new result }
     {
@@ -64,14 +64,14 @@ impl Session {
         }
     }
 
-    /// Goes on by at most `most` entries, and returns why it came back.
+    /// Runs the flow for at most `most` entries, and returns why it stopped.
     pub fn advance(&mut self, most: u64) -> Pause
         ensures { GoesOn self.old self.new most result }
     {
         self.flow.advance(most)
     }
 
-    /// Says that the input at a place has ended. Returns `Done`, or `NoChannel` if there is none.
+    /// Ends input `place`. Returns `Done`, or `NoChannel` if there is none.
     pub fn end_input(&mut self, place: usize) -> Answer
         ensures { EndsAt self.old self.new place result }
     {
@@ -83,7 +83,6 @@ impl Session {
     }
 }
 
-/// That nothing was fed or drained, for this reason.
 fn nothing_for(answer: Answer) -> Moved
     ensures count { result.count ≡ 0 }
     ensures answer { result.answer ≡ answer }
@@ -92,7 +91,7 @@ fn nothing_for(answer: Answer) -> Moved
 }
 
 impl Session {
-    /// Returns whether the input at a place has not ended and has room; `None` if there is no such input.
+    /// Returns whether input `place` has room and has not ended; `None` if there is none.
     pub fn may_feed(&self, place: usize) -> Option<bool>
         ensures { result ≡ option_map (may_feed self.now) (slice_get self.now.inputs place) }
     {
@@ -100,8 +99,8 @@ impl Session {
         Some(self.flow.is_input(channel) && self.flow.has_room(channel))
     }
 
-    /// Returns whether a process waits for a token of the input at a place, which is then empty; `None` if there is no
-    /// such input.
+    /// Returns whether a process waits for a token of input `place`, which is then empty; `None` if there is
+    /// none.
     pub fn waits_for_input(&self, place: usize) -> Option<bool>
         ensures { result ≡ option_map (starves self.now.network self.now.standings) (slice_get self.now.inputs place) }
     {
@@ -109,8 +108,8 @@ impl Session {
         Some(self.flow.is_starved(channel))
     }
 
-    /// Returns whether a process waits for room in the output at a place, which is then full; `None` if there is no such
-    /// output.
+    /// Returns whether a process waits for room in output `place`, which is then full; `None` if there is
+    /// none.
     pub fn waits_for_output(&self, place: usize) -> Option<bool>
         ensures { result ≡ option_map (holds_up self.now.network self.now.standings) (slice_get self.now.outputs place) }
     {
@@ -118,7 +117,7 @@ impl Session {
         Some(self.flow.is_held_up(channel))
     }
 
-    /// Returns how many tokens the input at a place holds, and how many it may hold now; `None` if there is no such input.
+    /// Returns the number of tokens and the current capacity of input `place`; `None` if there is none.
     pub fn input_fill(&self, place: usize) -> Option<(usize, usize)>
         ensures { result ≡ option_map (fill self.now) (slice_get self.now.inputs place) }
     {
@@ -126,8 +125,7 @@ impl Session {
         Some(self.flow.tokens_and_capacity(channel))
     }
 
-    /// Returns how many tokens the output at a place holds, and how many it may hold now; `None` if there is no such
-    /// output.
+    /// Returns the number of tokens and the current capacity of output `place`; `None` if there is none.
     pub fn output_fill(&self, place: usize) -> Option<(usize, usize)>
         ensures { result ≡ option_map (fill self.now) (slice_get self.now.outputs place) }
     {
@@ -135,8 +133,7 @@ impl Session {
         Some(self.flow.tokens_and_capacity(channel))
     }
 
-    /// Returns how many entries the flow has made, and how many of them were growths; each is `u64::MAX` if they are as
-    /// many or more.
+    /// Returns the number of entries so far, and how many were growths, each at most `u64::MAX`.
     pub fn entries(&self) -> (u64, u64)
         ensures entries { result.0 ≡ self.now.counts.entries }
         ensures growths { result.1 ≡ self.now.counts.growths }
@@ -144,7 +141,7 @@ impl Session {
         (self.flow.entries(), self.flow.growths())
     }
 
-    /// Returns how the flow stands, without going on: `Cut` if it may go on, and else why nothing goes on.
+    /// Returns how the flow stands, without running it: `Cut` if it may continue, else why it can't.
     pub fn stand(&self) -> Pause
         ensures { IsStand flow_kinds self.now.network self.now.unended self.now.outputs self.now.state self.now.standings result }
     {

@@ -1,4 +1,4 @@
-//! Each public call once, against values that were worked out without the engine.
+//! Tests each public call against values that were computed without the engine.
 use crate::{
     Answer, Moved, OpenFault, Session, check, copy_out, end_number, message_of_fault, pause_number,
     run,
@@ -9,7 +9,7 @@ use kpn_net::NetFault;
 use std::alloc::Global;
 use std::process::Abort;
 
-/// The sums of each word and the one before it, of which the first is 0, from x to y; and flags from on to off.
+/// Writes to y the sum of each word of x and the one before it (first 0); negates flags from on to off.
 const SUMS: &[u8] = br#"version = 1
 process = [
   { name = "src", kind = "count", args = [0, 0] },
@@ -32,19 +32,17 @@ channel = [
 ]
 "#;
 
-/// The session of the sums.
 fn sums<R: Abort>(rt: &R, alloc: Global) -> Session {
     Session::open(alloc, SUMS, b" x\non ", b"y off")
         .ok()
         .expect(rt, "no session")
 }
 
-/// What was moved, and the answer.
 fn moved(count: usize, answer: Answer) -> Moved {
     Moved { count, answer }
 }
 
-/// The answer to an opening that is refused, and whether its message is this.
+/// Checks that `open` fails with this message, and returns its answer.
 fn refusal<R: Abort>(
     rt: &R,
     alloc: Global,
@@ -235,7 +233,6 @@ fn descriptions_are_checked(rt: HostRuntime) {
     assert!(rt; message_of_fault(rt.alloc(), b"", NetFault::Memory).is_none());
 }
 
-/// A counter of three words and what reads them.
 const COUNTER: &[u8] = br#"version = 1
 process = [
   { name = "src", kind = "count", args = [1, 3] },

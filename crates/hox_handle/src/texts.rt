@@ -1,4 +1,4 @@
-//! Texts for buffers of callers: reports, and what is wrong.
+//! Texts for buffers of callers: reports and messages.
 ghost use Rattle.hox_handle.specs.Texts.{IsCopied};
 
 use crate::names::names_in;
@@ -10,7 +10,7 @@ use kpn_net::NetFault;
 use std::alloc::{AllocError, Global};
 use std::fmt::Write;
 
-/// Copies bytes to the front of a buffer, as many as it is long, and returns how many there are.
+/// Copies bytes to the front of a buffer, as many as fit, and returns the number of bytes given.
 pub fn copy_out(bytes: &[u8], buffer: &mut [u8]) -> usize
     ensures { IsCopied bytes.now buffer.old buffer.new result }
 {
@@ -19,8 +19,8 @@ pub fn copy_out(bytes: &[u8], buffer: &mut [u8]) -> usize
     bytes.len()
 }
 
-/// Returns what is wrong with a description that has a fault, and where, on one line that no line feed ends; `None` if the
-/// fault says all, or memory was refused.
+/// Returns what is wrong with a description that has this fault, and where, on one line without a line feed;
+/// `None` if the fault says all, or if out of memory.
 pub fn message_of_fault(alloc: Global, text: &[u8], fault: NetFault) -> Option<String> {
     if matches!(fault, NetFault::Memory | NetFault::Input) {
         return None;
@@ -32,8 +32,8 @@ pub fn message_of_fault(alloc: Global, text: &[u8], fault: NetFault) -> Option<S
 }
 
 impl OpenFault {
-    /// Returns what is wrong, on one line that no line feed ends, given what the session was to be opened of; `None` if
-    /// the number of the answer says all, or memory was refused.
+    /// Returns what is wrong, on one line without a line feed, given the arguments of `open`; `None` if the
+    /// number of the answer says all, or if out of memory.
     pub fn message(
         &self,
         alloc: Global,
@@ -54,7 +54,7 @@ impl OpenFault {
     }
 }
 
-/// The words for one sort of ends: what one is called, and what is wrong with the process at its outer end.
+/// What an input or an output is called, the process at its outer end, and what is wrong with that process.
 struct EndWords {
     end: &'static str,
     process: &'static str,
@@ -73,7 +73,6 @@ const OUTPUT: EndWords = EndWords {
     wrong: "takes its tokens; let a copy write them also to a channel that a drain reads",
 };
 
-/// What is wrong with the end whose name stands at a place of a text.
 fn message_of_end(
     alloc: Global,
     words: &EndWords,
@@ -91,7 +90,6 @@ fn message_of_end(
     }
 }
 
-/// That no channel has a name.
 fn no_channel(alloc: Global, words: &EndWords, name: &str) -> Result<String, AllocError> {
     let mut out = String::new(alloc);
     let end = words.end;
@@ -99,7 +97,6 @@ fn no_channel(alloc: Global, words: &EndWords, name: &str) -> Result<String, All
     Ok(out)
 }
 
-/// That the process at the outer end of a channel does more than to stop.
 fn busy(alloc: Global, words: &EndWords, name: &str, process: &str) -> Result<String, AllocError> {
     let mut out = String::new(alloc);
     let (end, at, wrong) = (words.end, words.process, words.wrong);

@@ -1,4 +1,4 @@
-//! Words, as callers have them, and the tokens that they stand for.
+//! Converts between a caller's words and tokens.
 ghost use Rattle.std.specs.Prelude.{◌≡◌, true, IfSome, IfNone};
 ghost use Rattle.kpn_model.specs.Families.{family};
 ghost use Rattle.kpn_model.specs.Valid.{IsOfSort};
@@ -10,14 +10,13 @@ use kpn_body::Body;
 use kpn_flow::Flow;
 use kpn_model::{Sort, Token};
 
-/// How many words were fed or drained, and the answer.
+/// The number of words fed or drained, and the answer.
 #[derive(Clone, Copy, Debug, PartialEq, Eq)]
 pub struct Moved {
     pub count: usize,
     pub answer: Answer,
 }
 
-/// The token of a word on a channel of this sort; `None` if it is no flag where flags go.
 fn token_of(sort: Sort, word: u64) -> Option<Token>
     ensures sort { IfSome result (IsOfSort sort) }
     ensures word { IfSome result (λ token. word_of token ≡ word) }
@@ -33,7 +32,6 @@ fn token_of(sort: Sort, word: u64) -> Option<Token>
     }
 }
 
-/// The word of a token.
 fn word_of(token: Token) -> u64
     ensures { result ≡ word_of token }
 {
@@ -44,8 +42,8 @@ fn word_of(token: Token) -> u64
     }
 }
 
-/// Feeds words into an input, in order, as many as it has room for. The answer is `Done` if all were fed or it is full,
-/// `NoFlag` if the next is no flag where flags go, and `Ended` if the channel is no input, or has ended.
+/// Feeds words into an input, in order, as many as fit. Answers `Done` if all were fed or it is full,
+/// `NoFlag` if the next is no flag, and `Ended` if the channel is no input or has ended.
 pub(crate) fn feed_words<B: Body>(flow: &mut Flow<B>, channel: usize, words: &[u64]) -> Moved
     ensures { Feeds (family B.Kinds.Kinds) flow.old flow.new channel words.now result }
 {
@@ -79,8 +77,8 @@ pub(crate) fn feed_words<B: Body>(flow: &mut Flow<B>, channel: usize, words: &[u
     }
 }
 
-/// Moves the first words of an output to the front of a buffer, in order, as many as there are and as it is long, and
-/// returns how many.
+/// Moves words of an output to the front of a buffer, in order, until the output is empty or the buffer is
+/// full. Returns how many.
 pub(crate) fn drain_words<B: Body>(flow: &mut Flow<B>, channel: usize, words: &mut [u64]) -> usize
     requires { is_among flow.old.outputs channel ≡ true }
     ensures { Drains (family B.Kinds.Kinds) flow.old flow.new channel words.old words.new result }

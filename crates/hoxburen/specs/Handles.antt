@@ -1,4 +1,4 @@
--- What a handle owns: nothing at null, where it is closed; and else a box, in which the session is that it keeps.
+-- What a handle owns: nothing if it is null (closed), else a box with the session that it keeps.
 use Rattle.std.specs.Prelude.{Option, None, Some}
 use Rattle.std.specs.Coded.{Coded, coded_option}
 use Rattle.std.specs.Box.Ownership.{box_owns}

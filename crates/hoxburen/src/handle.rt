@@ -10,8 +10,8 @@ use std::marker::Model;
 use std::mem;
 use std::ptr::null_mut;
 
-/// A flow that the caller keeps: closed at null, and else the pointer of a box in which its session is. All bytes 0 is a
-/// closed one. `kept` is the session of an open one.
+/// A flow that the caller keeps: null if closed, else the pointer of a box with its session, which is `kept`.
+/// All bytes 0 is a closed flow.
 #[repr(C)]
 pub struct HoxFlow {
     at: *mut u8,
@@ -24,7 +24,6 @@ impl Model for HoxFlow {
 }
 
 impl HoxFlow {
-    /// A closed flow.
     fn closed(alloc: Global) -> HoxFlow
         ensures { result.kept ≡ None }
     {
@@ -34,7 +33,6 @@ impl HoxFlow {
         }
     }
 
-    /// An open flow, of the parts of a box.
     fn of_parts(parts: Parts<Session, Global>) -> HoxFlow
         ensures { result.kept ≡ Some parts.value }
     {
@@ -45,7 +43,6 @@ impl HoxFlow {
         }
     }
 
-    /// The parts of the box, if the flow is open.
     fn into_parts(self) -> Option<Parts<Session, Global>>
         ensures { MatchOption result (self.kept ≡ None) (λ parts. self.kept ≡ Some parts.value) }
     {
@@ -60,7 +57,7 @@ impl HoxFlow {
         }
     }
 
-    /// Takes the session out of an open flow, which is then closed; `None` if it is closed.
+    /// Closes the flow and returns its session; `None` if it was closed.
     pub(crate) fn take(&mut self, alloc: Global) -> Option<Box<Session>>
         ensures closed { self.new.kept ≡ None }
         ensures taken { MatchOption result (self.old.kept ≡ None) (λ session. self.old.kept ≡ Some session.value) }
@@ -71,7 +68,7 @@ impl HoxFlow {
         }
     }
 
-    /// Puts a session into a flow, which is then open. One that was there is dropped.
+    /// Opens the flow with a session. Drops the session of an open one.
     pub(crate) fn put(&mut self, session: Box<Session>)
         ensures { self.new.kept ≡ Some session.value }
     {

@@ -1,8 +1,7 @@
-//! The engine for callers in C, and in all languages that call C: a static library. `embedding/c/hoxburen.h` declares what
-//! it exports, and is its manual.
+//! The engine as a static library for C and all languages that call C. Manual: `embedding/c/hoxburen.h`.
 //!
-//! Each export tests all that its callers could get wrong but the memory that they pass, and answers with a number: none
-//! has a `requires`. The contracts speak of the flow that a handle keeps.
+//! No export has a `requires`: each checks everything except the memory that callers pass, and answers with a
+//! number. The contracts speak of the flow that a handle keeps.
 #![tactic(auto)]
 
 mod handle;

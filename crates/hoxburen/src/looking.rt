@@ -9,7 +9,7 @@ use hox_handle::{Answer, copy_out, pause_number};
 use kpn_net::NetFault;
 use std::alloc::Global;
 
-/// Tells whether the input at a place has not ended and has room: 1 or 0.
+/// Sets `may` to 1 if an input has room and has not ended, else to 0.
 #[unsafe(no_mangle)]
 pub extern "C" fn hox_may_feed(
     alloc: Global,
@@ -30,7 +30,7 @@ pub extern "C" fn hox_may_feed(
     }
 }
 
-/// Tells whether a process waits for a word of the input at a place: 1 or 0.
+/// Sets `waits` to 1 if a process waits for a word of an input, else to 0.
 #[unsafe(no_mangle)]
 pub extern "C" fn hox_waits_for_input(
     alloc: Global,
@@ -51,7 +51,7 @@ pub extern "C" fn hox_waits_for_input(
     }
 }
 
-/// Tells whether a process waits for room in the output at a place: 1 or 0.
+/// Sets `waits` to 1 if a process waits for room in an output, else to 0.
 #[unsafe(no_mangle)]
 pub extern "C" fn hox_waits_for_output(
     alloc: Global,
@@ -72,7 +72,6 @@ pub extern "C" fn hox_waits_for_output(
     }
 }
 
-/// Writes a flag as 1 or 0, if there is one, and returns the answer.
 fn tell_flag(told: Option<bool>, out: &mut u32) -> u32
     ensures { TellsFlag told out.new result }
 {
@@ -88,7 +87,7 @@ fn tell_flag(told: Option<bool>, out: &mut u32) -> u32
     }
 }
 
-/// Tells how many words the input at a place holds, and how many it may hold now.
+/// Sets `held` and `capacity` to an input's number of words and current capacity.
 #[unsafe(no_mangle)]
 pub extern "C" fn hox_input_fill(
     alloc: Global,
@@ -111,7 +110,7 @@ pub extern "C" fn hox_input_fill(
     }
 }
 
-/// Tells how many words the output at a place holds, and how many it may hold now.
+/// Sets `held` and `capacity` to an output's number of words and current capacity.
 #[unsafe(no_mangle)]
 pub extern "C" fn hox_output_fill(
     alloc: Global,
@@ -134,7 +133,6 @@ pub extern "C" fn hox_output_fill(
     }
 }
 
-/// Writes how full a channel is, if there is one, and returns the answer.
 fn tell_fill(told: Option<(usize, usize)>, held: &mut u64, capacity: &mut u64) -> u32
     ensures { TellsFill told held.new capacity.new result }
 {
@@ -152,7 +150,7 @@ fn tell_fill(told: Option<(usize, usize)>, held: &mut u64, capacity: &mut u64) -
     }
 }
 
-/// Tells how many entries the flow has made, and how many of them were growths.
+/// Sets `entries` to the number of entries so far, `growths` to how many were growths.
 #[unsafe(no_mangle)]
 pub extern "C" fn hox_entries(
     alloc: Global,
@@ -174,7 +172,7 @@ pub extern "C" fn hox_entries(
     }
 }
 
-/// Tells how the flow stands, without going on.
+/// Sets `verdict` to how the flow stands, without running it.
 #[unsafe(no_mangle)]
 pub extern "C" fn hox_verdict(alloc: Global, flow: &mut HoxFlow, verdict: &mut u32) -> u32
     ensures { LooksAt flow.old.kept flow.new.kept result (verdict.new ≡ 0) (λ s. TellsVerdict s verdict.new result) }
@@ -190,7 +188,7 @@ pub extern "C" fn hox_verdict(alloc: Global, flow: &mut HoxFlow, verdict: &mut u
     }
 }
 
-/// Writes the text of where a flow stands to the front of a buffer; `length` is how long it is.
+/// Writes the flow's report to the front of a buffer; `length` is its full length.
 #[unsafe(no_mangle)]
 pub extern "C" fn hox_report(
     alloc: Global,

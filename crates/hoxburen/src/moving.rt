@@ -1,4 +1,4 @@
-//! Feeding and draining a flow, and letting it go on.
+//! Feeds, runs and drains a flow.
 ghost use Rattle.std.specs.Prelude.{◌≡◌, ⊤};
 ghost use Rattle.hoxburen.specs.Calls.{Advances, DrainsWords, EndsInput, FeedsWords, OnFlow};
 
@@ -6,7 +6,7 @@ use crate::handle::HoxFlow;
 use hox_handle::{Answer, pause_number};
 use std::alloc::Global;
 
-/// Feeds words into the input at a place; `fed` is how many were taken.
+/// Feeds words into the input at a place; `fed` is the number taken.
 #[unsafe(no_mangle)]
 pub extern "C" fn hox_feed(
     alloc: Global,
@@ -29,7 +29,7 @@ pub extern "C" fn hox_feed(
     }
 }
 
-/// Goes on by at most `most` entries; `pause` is why it came back.
+/// Runs the flow for at most `most` entries; `pause` is why it stopped.
 #[unsafe(no_mangle)]
 pub extern "C" fn hox_advance(alloc: Global, flow: &mut HoxFlow, most: u64, pause: &mut u32) -> u32
     ensures { OnFlow flow.old.kept flow.new.kept result (pause.new ≡ 0) (λ s t. Advances s t most pause.new result) }
@@ -46,7 +46,7 @@ pub extern "C" fn hox_advance(alloc: Global, flow: &mut HoxFlow, most: u64, paus
     }
 }
 
-/// Moves the first words of the output at a place to the front of a buffer; `drained` is how many.
+/// Moves words of the output at a place to the front of a buffer; `drained` is how many.
 #[unsafe(no_mangle)]
 pub extern "C" fn hox_drain(
     alloc: Global,
@@ -69,7 +69,7 @@ pub extern "C" fn hox_drain(
     }
 }
 
-/// Says that the input at a place has ended.
+/// Ends the input at a place.
 #[unsafe(no_mangle)]
 pub extern "C" fn hox_end_input(alloc: Global, flow: &mut HoxFlow, input: usize) -> u32
     ensures { OnFlow flow.old.kept flow.new.kept result ⊤ (λ s t. EndsInput s t input result) }

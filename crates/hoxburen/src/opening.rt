@@ -1,4 +1,4 @@
-//! Opening and closing a flow, and finding its channels.
+//! Opens and closes flows, and finds their channels.
 ghost use Rattle.std.specs.Prelude.{◌≡◌, None, IfErr, IfNone, IfOk, IfSome};
 ghost use Rattle.hox_handle.specs.Answers.{answer_number};
 ghost use Rattle.hox_handle.specs.Opening.{IsOpenFault, Opens};
@@ -10,8 +10,9 @@ use hox_handle::{Answer, OpenFault, Session, copy_out};
 use hox_stream::StreamFault;
 use std::alloc::Global;
 
-/// Opens a flow that is closed: the network of a description, at its start, between the channels whose names stand in two
-/// texts, with white space between them. What is wrong goes into the buffer, and how long that is to `length`.
+/// Opens a closed flow at the start of a description's network. `inputs` and `outputs` name the channels to
+/// feed and to drain, separated by white space. An error's message goes into the buffer, its full length into
+/// `length`.
 #[unsafe(no_mangle)]
 pub extern "C" fn hox_open(
     alloc: Global,
@@ -49,7 +50,6 @@ pub extern "C" fn hox_open(
     }
 }
 
-/// A session in a box.
 fn open_boxed(
     alloc: Global,
     text: &[u8],
@@ -66,7 +66,7 @@ fn open_boxed(
     }
 }
 
-/// Closes a flow.
+/// Closes a flow, and frees its memory.
 #[unsafe(no_mangle)]
 pub extern "C" fn hox_close(alloc: Global, flow: &mut HoxFlow) -> u32
     ensures closed { flow.new.kept ≡ None }
@@ -78,7 +78,7 @@ pub extern "C" fn hox_close(alloc: Global, flow: &mut HoxFlow) -> u32
     }
 }
 
-/// Finds the place of the input of a name.
+/// Sets `input` to the place of the input with this name.
 #[unsafe(no_mangle)]
 pub extern "C" fn hox_input(
     alloc: Global,
@@ -99,7 +99,7 @@ pub extern "C" fn hox_input(
     }
 }
 
-/// Finds the place of the output of a name.
+/// Sets `output` to the place of the output with this name.
 #[unsafe(no_mangle)]
 pub extern "C" fn hox_output(
     alloc: Global,
@@ -120,7 +120,6 @@ pub extern "C" fn hox_output(
     }
 }
 
-/// Tells a place that was found, or that none was.
 fn place_told(found: Option<usize>, place: &mut usize) -> u32
     ensures found { IfSome found (λ k. (place.new ≡ k) × (result ≡ 0)) }
     ensures none { IfNone found ((place.new ≡ 0) × (result ≡ answer_number Answer.NoChannel)) }

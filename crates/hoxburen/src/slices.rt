@@ -1,8 +1,7 @@
 //! Bytes as C passes them.
 ghost use Rattle.std.specs.Prelude.{◌≡◌};
 
-/// The bytes; where there are none, those of an empty text, so that the pointer that came with them, which may be null, is
-/// not used.
+/// Returns the bytes; an empty text if there are none, because the caller's pointer may then be null.
 pub(crate) fn bytes_of(bytes: &[u8]) -> &[u8]
     ensures { result.now ≡ bytes.now }
 {

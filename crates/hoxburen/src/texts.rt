@@ -1,4 +1,4 @@
-//! What is told of a description alone.
+//! Checks and runs descriptions.
 ghost use Rattle.std.specs.Prelude.{◌≡◌};
 ghost use Rattle.hoxburen.specs.Calls.{ChecksText, IsMessage, RunsText};
 
@@ -18,7 +18,7 @@ pub extern "C" fn hox_version() -> u32
     VERSION
 }
 
-/// Checks a description. What is wrong goes into the buffer, and how long that is to `length`.
+/// Checks a description. An error's message goes into the buffer, its full length into `length`.
 #[unsafe(no_mangle)]
 pub extern "C" fn hox_check(
     alloc: Global,
@@ -34,8 +34,8 @@ pub extern "C" fn hox_check(
     answer.number()
 }
 
-/// Runs the network of a description from its start to its end. The report, or what is wrong with the description, goes
-/// into the buffer, and how long that is to `length`.
+/// Runs a description's network from start to end. The report or an error's message goes into the buffer, its
+/// full length into `length`.
 #[unsafe(no_mangle)]
 pub extern "C" fn hox_run(alloc: Global, text: &[u8], report: &mut [u8], length: &mut usize) -> u32
     ensures { RunsText text.now report.old report.new length.new result }
@@ -53,7 +53,6 @@ pub extern "C" fn hox_run(alloc: Global, text: &[u8], report: &mut [u8], length:
     }
 }
 
-/// Writes what is wrong with a description, if something is, to the front of a buffer, and returns how long it is.
 fn say_answer(alloc: Global, text: &[u8], answer: Answer, buffer: &mut [u8]) -> usize
     ensures message { IsMessage buffer.old buffer.new result }
     ensures none { answer ≡ Answer.Done → result ≡ 0 }
@@ -64,7 +63,7 @@ fn say_answer(alloc: Global, text: &[u8], answer: Answer, buffer: &mut [u8]) -> 
     }
 }
 
-/// Writes what is wrong with a description to the front of a buffer, and returns how long it is.
+/// Writes the fault's message to the front of a buffer, and returns its full length.
 fn say_fault(alloc: Global, text: &[u8], fault: NetFault, buffer: &mut [u8]) -> usize
     ensures { IsMessage buffer.old buffer.new result }
 {

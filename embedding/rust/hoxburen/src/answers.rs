@@ -1,19 +1,19 @@
-//! What the library answers.
+//! Answers of the library.
 use alloc::string::String;
 use core::error::Error;
 use core::fmt;
 
-/// How a flow stands: why [`Flow::advance`](crate::Flow::advance) came back.
+/// How a flow stands; why [`Flow::advance`](crate::Flow::advance) stopped.
 #[derive(Clone, Copy, Debug, PartialEq, Eq, Hash)]
 pub enum Pause {
-    /// It can go on: it made as many entries as it was allowed.
+    /// It may continue; fewer than two of the allowed entries were left.
     Cut,
-    /// Nothing goes on, and a process waits for a word of an empty input: feed it or end it.
+    /// No process can continue, and one waits for a word of an empty input: feed or end it.
     Starved,
-    /// Nothing goes on, none waits so, and one waits for room in a full output: drain it.
+    /// Otherwise, no process can continue, and one waits for room in a full output: drain it.
     Blocked,
-    /// It is over, as a run ends: neither feeding nor draining helps now. [`End::Memory`] is the exception: if it is advanced
-    /// again, it asks for the memory again.
+    /// It is over, like a run: neither feeding nor draining helps. After [`End::Memory`], the next advance
+    /// tries again.
     Over(End),
 }
 
@@ -43,13 +43,13 @@ impl fmt::Display for Pause {
 pub enum End {
     /// Each process has stopped.
     Terminated,
-    /// None goes on, and some wait for tokens that never come.
+    /// No process can continue, and some wait for tokens that never come.
     Deadlock,
     /// A channel at its greatest capacity would have to grow.
     Ceiling,
-    /// The budget of the description was spent ([`run`](crate::run) alone).
+    /// The budget of the description is spent (only [`run`](crate::run)).
     Budget,
-    /// A channel's growth was refused memory.
+    /// Out of memory for a channel's growth.
     Memory,
 }
 
@@ -78,7 +78,7 @@ impl fmt::Display for End {
     }
 }
 
-/// A call was refused; nothing has changed, but that an input took [`Refused::taken`] words.
+/// A call failed. Nothing changed, except that an input took [`Refused::taken`] words.
 #[derive(Clone, PartialEq, Eq)]
 pub struct Refused {
     reason: Reason,
@@ -95,17 +95,17 @@ impl Refused {
         }
     }
 
-    /// Why.
+    /// Returns why.
     pub fn reason(&self) -> Reason {
         self.reason
     }
 
-    /// The number of the reason: up to 17 as docs/format.md numbers faults, and as hoxburen.h numbers answers.
+    /// Returns the number of the reason, as in hoxburen.h; up to 17 also as in the faults of docs/format.md.
     pub fn number(&self) -> u32 {
         self.reason as u32
     }
 
-    /// How many words of the call an input took before the one that is no flag.
+    /// Returns the number of words that an input took before the one that is no flag.
     pub fn taken(&self) -> usize {
         self.taken
     }
@@ -131,7 +131,7 @@ impl Error for Refused {}
 
 macro_rules! reasons {
     ($($(#[doc = $doc:literal])* $name:ident = $number:literal, $text:literal;)*) => {
-        /// Why a call was refused. Numbers up to 17 are the faults of a description (docs/format.md).
+        /// Why a call failed. Numbers up to 17 are the faults of a description (docs/format.md).
         #[derive(Clone, Copy, Debug, PartialEq, Eq, Hash)]
         #[non_exhaustive]
         #[repr(u32)]

@@ -1,8 +1,9 @@
-//! Kahn process networks: checked, run, and fed and drained for as long as you like.
+//! Checks and runs Kahn process networks, and feeds and drains networks that may run forever.
 //!
-//! A description is a text in TOML that names processes, each of a kind, and the channels between them (docs/format.md and
-//! docs/signals.md of Hoxburen). A [`Flow`] is its network at work: you feed words into its inputs, and take them from its
-//! outputs. What comes out depends on what you feed, and never on when, nor in what pieces.
+//! A description is a TOML text that lists processes, each with its kind, and the channels between them
+//! (docs/format.md and docs/signals.md of Hoxburen). A [`Flow`] runs its network: you feed words into its
+//! inputs and drain them from its outputs. The output depends only on what you feed, never on when, or in
+//! what pieces.
 //!
 //! ```
 //! use hoxburen::Flow;
@@ -29,12 +30,13 @@
 //! # }
 //! ```
 //!
-//! An input is a channel whose writer stops at once, as the kinds `input`, `input_flags` and `count 0 0` do; an output is
-//! one whose reader only reads it, as `drain`, `drain_flags` and `sink` do. A word has 64 bits; [`Flow::feed_signed`] and
-//! [`Flow::drain_signed`] read it in two's complement. On a channel of flags, 0 is false and 1 is true.
+//! An input is a channel whose writer stops at once (kinds `input`, `input_flags` and `count 0 0`); an output
+//! is one whose reader only reads it (`drain`, `drain_flags` and `sink`). Words have 64 bits;
+//! [`Flow::feed_signed`] and [`Flow::drain_signed`] read them in two's complement. On a channel of flags, 0
+//! is false and 1 is true.
 //!
-//! Back pressure goes both ways: [`Flow::feed`] takes as many words as the input has room for, and the network waits where an
-//! output is full. So memory is bounded by the capacities of the channels, however many words go through:
+//! [`Flow::feed`] takes only the words that fit into the input, and the network waits if an output is full.
+//! So the capacities of the channels bound the memory, however many words pass:
 //!
 //! ```
 //! # use hoxburen::Flow;
@@ -64,8 +66,9 @@
 //! # }
 //! ```
 //!
-//! The engine is a static library with a C interface, `libhoxburen.a`. The environment variable `HOXBUREN_LIB` names the
-//! folder that holds it; otherwise the build takes it from the repository that this crate is part of.
+//! The engine is a static library with a C interface, `libhoxburen.a`. The environment variable
+//! `HOXBUREN_LIB` names its folder; without it, the build takes the library from the repository of this
+//! crate.
 #![no_std]
 #![warn(missing_docs)]
 
@@ -84,9 +87,9 @@ use core::ffi::c_char;
 use core::fmt;
 use core::iter::FusedIterator;
 
-/// A network at work.
+/// A network that is fed, run and drained.
 ///
-/// It may go to another thread ([`Send`]), and takes calls from one at a time: it is not [`Sync`].
+/// It may move to another thread ([`Send`]), but takes calls from one at a time: it is not [`Sync`].
 ///
 /// ```
 /// fn sends<T: Send>() {}
@@ -98,41 +101,43 @@ use core::iter::FusedIterator;
 /// is_shared::<hoxburen::Flow>();
 /// ```
 pub struct Flow {
-    // It is open from `Flow::open` until it is dropped. The functions of the library take it by a pointer that may write,
-    // also those that only look.
+    // Open from `Flow::open` until dropped. The library takes a mutable pointer, even in calls that only
+    // look.
     raw: UnsafeCell<sys::Flow>,
 }
 
-// SAFETY: a flow may go to another thread, if its calls are ordered (DUTIES of hoxburen.h, 5); who has it alone orders them.
+// SAFETY: a flow may move to another thread if its calls are ordered (DUTIES of hoxburen.h, 5); its only
+// owner orders them.
 unsafe impl Send for Flow {}
 
-/// An input of a flow: its place among the names that were given to [`Flow::open`].
+/// An input of a flow: its place among the names given to [`Flow::open`].
 #[derive(Clone, Copy, Debug, PartialEq, Eq, Hash, PartialOrd, Ord)]
 pub struct Input(pub usize);
 
-/// An output of a flow: its place among the names that were given to [`Flow::open`].
+/// An output of a flow: its place among the names given to [`Flow::open`].
 #[derive(Clone, Copy, Debug, PartialEq, Eq, Hash, PartialOrd, Ord)]
 pub struct Output(pub usize);
 
-/// How many words a channel holds, and how many it may hold now.
+/// How full a channel is.
 #[derive(Clone, Copy, Debug, PartialEq, Eq)]
 pub struct Fill {
-    /// How many words it holds.
+    /// The number of words in it.
     pub held: u64,
-    /// How many it may hold. A channel grows where nothing else goes on.
+    /// Its current capacity. A channel grows if nothing else lets the network continue.
     pub capacity: u64,
 }
 
-/// How many entries a flow has made. An entry is a word read or written, a process's stop or a channel's growth.
+/// The number of entries of a flow. An entry is a word read or written, a process's stop or a channel's
+/// growth.
 #[derive(Clone, Copy, Debug, PartialEq, Eq)]
 pub struct Entries {
-    /// All of them.
+    /// All entries.
     pub all: u64,
-    /// Those that were growths.
+    /// The growths among them.
     pub growths: u64,
 }
 
-/// A run of a network from its start to its end.
+/// A run of a network from start to end.
 #[derive(Clone, Debug, PartialEq, Eq)]
 pub struct Run {
     /// How it ended.
@@ -142,13 +147,13 @@ pub struct Run {
 }
 
 impl Flow {
-    /// Opens a flow: the network of a description, at its start. `inputs` names the channels that will be fed, and `outputs`
-    /// those that will be drained.
+    /// Opens a flow at the start of the network of a description. `inputs` names the channels to feed,
+    /// `outputs` those to drain.
     ///
     /// # Errors
     ///
-    /// If something is wrong with the description, or a channel can't be fed or drained or is named twice: the message says
-    /// what, and where.
+    /// If the description has a fault, or a channel can't be fed or drained or is named twice. The message
+    /// says what is wrong, and where.
     ///
     /// ```
     /// use hoxburen::{Flow, Reason};
@@ -161,8 +166,8 @@ impl Flow {
         let inputs = joined(inputs, Reason::NoInput)?;
         let outputs = joined(outputs, Reason::NoOutput)?;
         let mut raw = sys::Flow::CLOSED;
-        // SAFETY: the flow is closed until the call that opens it, and each pointer leads to as many bytes as the length
-        // beside it says.
+        // SAFETY: the flow is closed until the call that opens it, and each pointer leads to as many bytes as
+        // the length beside it says.
         let (number, message) = told(|room, room_length, length| unsafe {
             sys::hox_open(
                 &mut raw,
@@ -183,7 +188,7 @@ impl Flow {
         })
     }
 
-    /// The input of this name.
+    /// Returns the input with this name.
     ///
     /// # Errors
     ///
@@ -196,7 +201,7 @@ impl Flow {
         Ok(Input(place))
     }
 
-    /// The output of this name.
+    /// Returns the output with this name.
     ///
     /// # Errors
     ///
@@ -210,12 +215,12 @@ impl Flow {
         Ok(Output(place))
     }
 
-    /// Feeds words into an input, in order, as many as it has room for, and returns how many.
+    /// Feeds words into an input, in order, as many as fit, and returns how many.
     ///
     /// # Errors
     ///
-    /// [`Reason::NoChannel`]; [`Reason::Ended`] after [`Flow::end_input`]; [`Reason::NoFlag`] if a word for a channel of flags
-    /// is neither 0 nor 1: [`Refused::taken`] words before it were taken.
+    /// [`Reason::NoChannel`]; [`Reason::Ended`] after [`Flow::end_input`]; [`Reason::NoFlag`] if a word for a
+    /// channel of flags is neither 0 nor 1, after the input took the [`Refused::taken`] words before it.
     pub fn feed(&mut self, input: Input, words: &[u64]) -> Result<usize, Refused> {
         let mut fed = 0;
         // SAFETY: as in `look`; the slice is as long as its length says.
@@ -232,11 +237,11 @@ impl Flow {
         Ok(fed)
     }
 
-    /// [`Flow::feed`] for words with a sign.
+    /// Feeds signed words with [`Flow::feed`].
     ///
     /// # Errors
     ///
-    /// As `feed`.
+    /// Those of `feed`.
     pub fn feed_signed(&mut self, input: Input, words: &[i64]) -> Result<usize, Refused> {
         // SAFETY: u64 has the size, the alignment and the values of i64.
         self.feed(input, unsafe {
@@ -244,13 +249,14 @@ impl Flow {
         })
     }
 
-    /// Goes on by at most `most` entries, and says why it came back. Of a network that goes on for ever, say how many.
+    /// Runs the flow for at most `most` entries, and returns why it stopped. If the network runs forever,
+    /// give a limit.
     pub fn advance(&mut self, most: u64) -> Pause {
         Pause::of(self.look(|flow, pause| unsafe { sys::hox_advance(flow, most, pause) }))
     }
 
-    /// Moves the first words of an output to the front of a buffer, and returns how many; the others are left as they are.
-    /// If they are fewer than the buffer has room for, the output is empty now.
+    /// Moves the first words of an output to the front of a buffer, returns how many, and leaves the rest of
+    /// the buffer. If the buffer is not filled, the output is now empty.
     ///
     /// # Errors
     ///
@@ -271,11 +277,11 @@ impl Flow {
         Ok(drained)
     }
 
-    /// [`Flow::drain`] for words with a sign.
+    /// Drains signed words with [`Flow::drain`].
     ///
     /// # Errors
     ///
-    /// As `drain`.
+    /// Those of `drain`.
     pub fn drain_signed(&mut self, output: Output, words: &mut [i64]) -> Result<usize, Refused> {
         // SAFETY: as in `feed_signed`.
         self.drain(output, unsafe {
@@ -283,13 +289,13 @@ impl Flow {
         })
     }
 
-    /// The words that an output holds, each of which it takes out. The network does not go on meanwhile. There are none if
+    /// Returns an iterator that takes the words out of an output, without running the network. It is empty if
     /// there is no such output.
     pub fn words(&mut self, output: Output) -> Words<'_> {
         Words { flow: self, output }
     }
 
-    /// Says that nothing more will be fed into an input. An input that had ended stays so.
+    /// Ends an input: it takes no more words. Does nothing if it has ended.
     ///
     /// # Errors
     ///
@@ -303,22 +309,24 @@ impl Flow {
         )
     }
 
-    /// Whether an input takes a word now: it has not ended and has room. False if there is no such input.
+    /// Returns whether an input has room and has not ended; `false` if there is no such input.
     pub fn may_feed(&self, input: Input) -> bool {
         self.look(|flow, may| unsafe { sys::hox_may_feed(flow, input.0, may) }) == 1
     }
 
-    /// Whether an input is empty and a process waits for a word of it. False if there is no such input.
+    /// Returns whether an input is empty and a process waits for a word of it; `false` if there is no such
+    /// input.
     pub fn is_starved(&self, input: Input) -> bool {
         self.look(|flow, waits| unsafe { sys::hox_waits_for_input(flow, input.0, waits) }) == 1
     }
 
-    /// Whether an output is full and a process waits for room in it. False if there is no such output.
+    /// Returns whether an output is full and a process waits for room in it; `false` if there is no such
+    /// output.
     pub fn is_full(&self, output: Output) -> bool {
         self.look(|flow, waits| unsafe { sys::hox_waits_for_output(flow, output.0, waits) }) == 1
     }
 
-    /// How full an input is.
+    /// Returns how full an input is.
     ///
     /// # Errors
     ///
@@ -334,7 +342,7 @@ impl Flow {
         Ok(Fill { held, capacity })
     }
 
-    /// How full an output is.
+    /// Returns how full an output is.
     ///
     /// # Errors
     ///
@@ -350,7 +358,7 @@ impl Flow {
         Ok(Fill { held, capacity })
     }
 
-    /// How many entries the flow has made since it was opened. A count that has come to [`u64::MAX`] stays there.
+    /// Returns the number of entries since the flow was opened. Each count stops at [`u64::MAX`].
     pub fn entries(&self) -> Entries {
         let (mut all, mut growths) = (0, 0);
         // SAFETY: as in `look`.
@@ -358,18 +366,19 @@ impl Flow {
         Entries { all, growths }
     }
 
-    /// How the flow stands, without going on. [`Pause::Cut`] is also told where only [`Flow::advance`] finds what comes of it.
+    /// Returns how the flow stands, without running it. [`Pause::Cut`] may mean that only [`Flow::advance`]
+    /// finds what follows.
     pub fn verdict(&self) -> Pause {
         Pause::of(self.look(|flow, verdict| unsafe { sys::hox_verdict(flow, verdict) }))
     }
 
-    /// Where the flow, each process and each channel stands, a line each.
+    /// Returns how the flow, each process and each channel stands, in lines.
     ///
     /// # Errors
     ///
-    /// [`Reason::Memory`] if memory for the text was refused.
+    /// [`Reason::Memory`] if out of memory for the text.
     pub fn report(&self) -> Result<String, Refused> {
-        // SAFETY: as in `look`; `told` hands over a buffer with its length.
+        // SAFETY: as in `look`; `told` passes a buffer with its length.
         let (number, report) = told(|room, room_length, length| unsafe {
             sys::hox_report(self.raw.get(), room, room_length, length)
         });
@@ -377,10 +386,10 @@ impl Flow {
         Ok(report)
     }
 
-    /// A number that the library tells of the flow; 0 where it refuses.
+    /// Returns the number that a call writes; 0 if the call fails.
     //
-    // SAFETY of the calls in this file: the flow is open, was written by the library alone, and is this caller's alone, since
-    // `Flow` is not `Sync`; what a call writes is a local of its own.
+    // SAFETY of the calls in this file: the flow is open, only the library wrote it, and it is this caller's
+    // alone, since `Flow` is not `Sync`; a call writes only into a local of its own.
     fn look(&self, call: impl FnOnce(*mut sys::Flow, *mut u32) -> u32) -> u32 {
         let mut told = 0;
         call(self.raw.get(), &mut told);
@@ -404,7 +413,7 @@ impl fmt::Debug for Flow {
     }
 }
 
-/// The words that an output holds: what [`Flow::words`] returns.
+/// The words of an output, from [`Flow::words`].
 #[derive(Debug)]
 pub struct Words<'a> {
     flow: &'a mut Flow,
@@ -426,25 +435,25 @@ impl FusedIterator for Words<'_> {}
 ///
 /// # Errors
 ///
-/// If something is wrong with it: the message says what, and where.
+/// If the description has a fault. The message says what is wrong, and where.
 ///
 /// ```
 /// let refused = hoxburen::check("version = 1\nproces = []\n").unwrap_err();
 /// assert_eq!(refused.reason(), hoxburen::Reason::Keys);
 /// ```
 pub fn check(text: &str) -> Result<(), Refused> {
-    // SAFETY: the text is as long as its length says, and `told` hands over a buffer with its length.
+    // SAFETY: the text is as long as its length says, and `told` passes a buffer with its length.
     let (number, message) = told(|room, room_length, length| unsafe {
         sys::hox_check(chars(text), text.len(), room, room_length, length)
     });
     answer(number, 0, message)
 }
 
-/// Runs the network of a description from its start to its end, in this thread, within its budget.
+/// Runs the network of a description from start to end, in this thread, within its budget.
 ///
 /// # Errors
 ///
-/// As [`check`].
+/// Those of [`check`].
 ///
 /// ```
 /// use hoxburen::{End, run};
@@ -472,7 +481,7 @@ pub fn run(text: &str) -> Result<Run, Refused> {
     }
 }
 
-/// The version of the library: 10000 * major + 100 * minor + patch.
+/// Returns the version of the library: 10000 * major + 100 * minor + patch.
 pub fn version() -> u32 {
     // SAFETY: it takes nothing.
     unsafe { sys::hox_version() }
@@ -490,7 +499,7 @@ fn answer(number: u32, taken: usize, message: String) -> Result<(), Refused> {
     }
 }
 
-/// The names with spaces between them, if each can be one.
+/// Joins names with spaces, if each is a valid name.
 fn joined(names: &[&str], reason: Reason) -> Result<String, Refused> {
     let is_name = |name: &str| {
         !name.is_empty()
@@ -508,7 +517,8 @@ fn joined(names: &[&str], reason: Reason) -> Result<String, Refused> {
     }
 }
 
-/// What a call answers, and the text that it writes. It is called again with more room if the text has too little.
+/// Returns the answer of a call and the text that it writes. Calls again with a longer buffer if the text did
+/// not fit.
 fn told(mut call: impl FnMut(*mut c_char, usize, *mut usize) -> u32) -> (u32, String) {
     let mut text: Vec<u8> = vec![0; 1024];
     loop {

@@ -1,4 +1,4 @@
-//! hoxburen.h, as Rust has it.
+//! Declares the functions of hoxburen.h.
 use core::ffi::{c_char, c_void};
 
 /// `hox_flow`.
