@@ -317,19 +317,22 @@ class Threads(unittest.TestCase):
 
         self.run_all(use, use)
 
-    def test_a_shared_flow(self):
-        sums = []
+    def test_another_threads_flow(self):
         with hoxburen.open(DOUBLER) as flow:
+            x, y = flow["x"], flow["y"]
+            calls = [lambda: x.feed([1]), lambda: x.offer([1]), x.end, y.drain, y.poll, flow.advance, flow.report, flow.close, lambda: flow.verdict, lambda: x.held]
+            refused = []
 
             def use():
-                got = 0
-                for _ in range(2000):
-                    flow["x"].feed([1])
-                    got += sum(flow["y"].drain(1))
-                sums.append(got)
+                for call in calls:
+                    with self.assertRaises(RuntimeError):
+                        call()
+                    refused.append(call)
 
-            self.run_all(use, use, use)
-            self.assertEqual(sum(sums) + sum(flow["y"]), 3 * 2 * 2000)
+            self.run_all(use)
+            self.assertEqual(refused, calls)
+            x.feed([21])
+            self.assertEqual(y.drain(), array("Q", [42]))
 
 
 class Help(unittest.TestCase):
