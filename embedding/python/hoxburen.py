@@ -136,8 +136,8 @@ _MEANINGS = {
     Number.ENDED: "the input has ended",
     Number.NO_FLAG: "a word for a channel of flags is neither 0 nor 1",
     Number.NO_TEXT: "the names are not UTF-8",
-    Number.NO_INPUT: "a channel to be fed does not exist, or its writer does more than to stop",
-    Number.NO_OUTPUT: "a channel to be drained does not exist, or its reader does more than to read it",
+    Number.NO_INPUT: "a channel to feed does not exist, or its writer does more than stop",
+    Number.NO_OUTPUT: "a channel to drain does not exist, or its reader does more than read it",
     Number.TWICE: "a channel is named twice",
 }
 

@@ -78,7 +78,7 @@ fn sums_come_out(rt: HostRuntime) {
     let mut words = [99; 6];
     assert_eq!(rt; session.drain(0, &mut words), moved(4, Answer::Done));
     assert_eq!(rt; words, [5, 12, 18, 24, 99, 99]);
-    assert_eq!(rt; session.entries(), (40, 0));
+    assert_eq!(rt; session.entries(), (37, 0));
 }
 
 #[test]
@@ -163,7 +163,7 @@ channel last left 1 capacity 4
 channel y left 2 capacity 4
 channel on left 0 capacity 2
 channel off left 0 capacity 2
-entries 22 growths 0
+entries 21 growths 0
 "
     );
 }
@@ -177,17 +177,17 @@ fn openings_are_refused(rt: HostRuntime) {
         SUMS,
         b"z",
         b"y",
-        Some("input z: no channel has this name"),
+        Some("input z: unknown channel"),
     );
     assert_eq!(rt; answer.number(), 38);
     let said =
-        "input now: its writer, both, does more than to stop; let its kind be input, or input_flags";
+        "input now: process both writes to that channel itself; make its kind input or input_flags";
     assert_eq!(rt;
         refusal(&rt, alloc, SUMS, b"x now", b"y", Some(said)).number(),
         38
     );
     let said =
-        "output now: its reader, sum, takes its tokens; let a copy write them also to a channel that a drain reads";
+        "output now: process sum reads that channel; add a copy that feeds a drain, and name its channel";
     assert_eq!(rt;
         refusal(&rt, alloc, SUMS, b"x", b"now", Some(said)).number(),
         39

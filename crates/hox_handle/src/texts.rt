@@ -54,23 +54,23 @@ impl OpenFault {
     }
 }
 
-/// What an input or an output is called, the process at its outer end, and what is wrong with that process.
+/// What an input or an output is called, what the process at its outer end does, and the remedy.
 struct EndWords {
     end: &'static str,
-    process: &'static str,
-    wrong: &'static str,
+    does: &'static str,
+    remedy: &'static str,
 }
 
 const INPUT: EndWords = EndWords {
     end: "input",
-    process: "writer",
-    wrong: "does more than to stop; let its kind be input, or input_flags",
+    does: "writes to that channel itself",
+    remedy: "make its kind input or input_flags",
 };
 
 const OUTPUT: EndWords = EndWords {
     end: "output",
-    process: "reader",
-    wrong: "takes its tokens; let a copy write them also to a channel that a drain reads",
+    does: "reads that channel",
+    remedy: "add a copy that feeds a drain, and name its channel",
 };
 
 fn message_of_end(
@@ -93,13 +93,13 @@ fn message_of_end(
 fn no_channel(alloc: Global, words: &EndWords, name: &str) -> Result<String, AllocError> {
     let mut out = String::new(alloc);
     let end = words.end;
-    write!(out, "{end} {name}: no channel has this name")?;
+    write!(out, "{end} {name}: unknown channel")?;
     Ok(out)
 }
 
 fn busy(alloc: Global, words: &EndWords, name: &str, process: &str) -> Result<String, AllocError> {
     let mut out = String::new(alloc);
-    let (end, at, wrong) = (words.end, words.process, words.wrong);
-    write!(out, "{end} {name}: its {at}, {process}, {wrong}")?;
+    let (end, does, remedy) = (words.end, words.does, words.remedy);
+    write!(out, "{end} {name}: process {process} {does}; {remedy}")?;
     Ok(out)
 }

@@ -182,7 +182,7 @@ reasons! {
     NoChannel = 34, "no input, or no output, is at this place or has this name";
     Ended = 35, "the input has ended";
     NoFlag = 36, "a word for an input of flags is neither 0 nor 1";
-    NoInput = 38, "a channel to be fed does not exist, or its writer does more than to stop";
-    NoOutput = 39, "a channel to be drained does not exist, or its reader does more than to read it";
+    NoInput = 38, "a channel to feed does not exist, or its writer does more than stop";
+    NoOutput = 39, "a channel to drain does not exist, or its reader does more than read it";
     Twice = 40, "a channel is named twice";
 }
