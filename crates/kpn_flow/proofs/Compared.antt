@@ -27,10 +27,10 @@ resize_preload (l ∷ ls) more sizes other =
     ap (λ rest. record l { tokens = l.tokens ++ more 0; capacity = other 0 } ∷ rest) (resize_preload ls (λ c. more (c + 1)) (λ c. sizes (c + 1)) (λ c. other (c + 1)))
 
 -- room for all that ever is on a channel
-abbrev room_for : Network → List Event → (ℕ → List Token) → ℕ → ℕ
+abbrev pub room_for : Network → List Event → (ℕ → List Token) → ℕ → ℕ
 room_for net xs later c = length (channel_of net c).tokens + length (all_fed xs later c) + length (put_on (entries_of xs) c)
 
-whole : (kinds : Family) (net : Network) (inputs outputs : List ℕ) (M : State) → AreEnds kinds net inputs outputs → (xs : List Event) (later : ℕ → List Token) → IsWay kinds net inputs outputs xs M later → IsOneRunWithStreams kinds net outputs xs M later (room_for net xs later)
+pub whole : (kinds : Family) (net : Network) (inputs outputs : List ℕ) (M : State) → AreEnds kinds net inputs outputs → (xs : List Event) (later : ℕ → List Token) → IsWay kinds net inputs outputs xs M later → IsOneRunWithStreams kinds net outputs xs M later (room_for net xs later)
 whole kinds net inputs outputs M ends xs later w = one_run kinds net inputs outputs M ends xs later (room_for net xs later) w.flows w.at_ends w.later_inputs (λ c h. omega arith)
 
 pub pieces_are_comparable : (kinds : Family) → PiecesAreComparable kinds

@@ -31,13 +31,13 @@ use Rattle.kpn_flow.proofs.Untaken.{one_run}
 use Rattle.kpn_flow.proofs.Wired.{wired_preloaded}
 
 -- nothing goes out of a channel that is no output
-drained_none : (ins outs : ℕ → Bool) (xs : List Event) (c : ℕ) → IsAtEnds ins outs xs → outs c ≡ false → drained xs c ≡ []
+pub drained_none : (ins outs : ℕ → Bool) (xs : List Event) (c : ℕ) → IsAtEnds ins outs xs → outs c ≡ false → drained xs c ≡ []
 drained_none ins outs [] c h e = refl
 drained_none ins outs (Went x ∷ xs) c h e = drained_none ins outs xs c h e
 drained_none ins outs (Fed b t ∷ xs) c h e = drained_none ins outs xs c h.1 e
 drained_none ins outs (Drained b t ∷ xs) c h e = ap (λ x. cond x (t ∷ drained xs c) (drained xs c)) (ne_eqb b c (λ s. true_false (outs c) (ap outs (sym s) ∙ h.0) e)) ∙ drained_none ins outs xs c h.1 e
 
-abbrev nothing_later : ℕ → List Token
+abbrev pub nothing_later : ℕ → List Token
 nothing_later c = []
 
 -- room for all that ever is on a channel in either

@@ -14,3 +14,4 @@ pub mod Batches
 pub mod Counting
 pub mod Exhausted
 pub mod Standing
+pub mod OwnProcesses

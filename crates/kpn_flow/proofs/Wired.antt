@@ -1,5 +1,5 @@
 -- A network with further start tokens and other capacities is wired alike.
-use Rattle.std.proofs.Common.{◌≡◌, List, [], ◌∷◌, ◌++◌, length, refl, sym, ap, ◌∙◌, arith, ℕ, ◌==◌, Bool, ◌&&◌, Some, get_or, None, ◌+◌, ◌<◌, suc, zero, cond, nat_lt, not, position}
+use Rattle.std.proofs.Common.{◌≡◌, List, [], ◌∷◌, ◌++◌, append-nil, length, refl, sym, ap, ◌∙◌, arith, ℕ, ◌==◌, Bool, ◌&&◌, Some, get_or, None, ◌+◌, ◌<◌, suc, zero, cond, nat_lt, not, position}
 use Rattle.std.specs.List.{prefix_len}
 use Rattle.kpn_model.specs.declared.token.Token.{Token}
 use Rattle.kpn_model.specs.declared.parts.Channel.{Channel}
@@ -42,6 +42,24 @@ preload-capacity (l ∷ ls) more sizes (suc c) h = preload-capacity ls (λ n. mo
   where
     next : (c : ℕ) → c + 1 ≡ suc c
     next c = omega arith
+
+-- a channel without further tokens has the same
+pub preload-unfed :
+    (ls : List Channel) (more : ℕ → List Token) (sizes : ℕ → ℕ) (c : ℕ) → more c ≡ []
+    → (get_or (preload ls more sizes) c no_channel).tokens ≡ (get_or ls c no_channel).tokens
+preload-unfed [] more sizes c e = refl
+preload-unfed (l ∷ ls) more sizes zero e = ap (λ ts. l.tokens ++ ts) e ∙ append-nil l.tokens
+preload-unfed (l ∷ ls) more sizes (suc c) e = preload-unfed ls (λ n. more (n + 1)) (λ n. sizes (n + 1)) c (ap more (next c) ∙ e)
+  where
+    next : (c : ℕ) → c + 1 ≡ suc c
+    next c = omega arith
+
+pub preload-writer :
+    (ls : List Channel) (more : ℕ → List Token) (sizes : ℕ → ℕ) (c : ℕ)
+    → (get_or (preload ls more sizes) c no_channel).writer ≡ (get_or ls c no_channel).writer
+preload-writer [] more sizes c = refl
+preload-writer (l ∷ ls) more sizes zero = refl
+preload-writer (l ∷ ls) more sizes (suc c) = preload-writer ls (λ n. more (n + 1)) (λ n. sizes (n + 1)) c
 
 pub wired_preloaded : (net : Network) (more : ℕ → List Token) (sizes : ℕ → ℕ) → AreWiredAlike net (preloaded net more sizes)
 wired_preloaded net more sizes =

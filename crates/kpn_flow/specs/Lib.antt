@@ -6,3 +6,4 @@ pub mod Preloaded
 pub mod Waits
 pub mod Pieces
 pub mod Stands
+pub mod OwnProcesses

@@ -1,5 +1,6 @@
-//! Feeding in pieces equals having all tokens from the start.
+//! Laws of flows: feeding in pieces equals having all tokens from the start, and the caller may be one more process.
 ghost use Rattle.kpn_model.specs.Network.{Family};
+ghost use Rattle.kpn_flow.specs.OwnProcesses.{OwnProcessesAreBelow};
 ghost use Rattle.kpn_flow.specs.Pieces.{PiecesAreComparable, ExhaustedAreTheSame};
 ghost use Rattle.kpn_flow.specs.Preloaded.{FeedingIsPreloading};
 
@@ -17,4 +18,12 @@ pub fn preloading()
 pub fn comparable()
     ensures begun_alike { (kinds : Family) → PiecesAreComparable kinds }
     ensures same { (kinds : Family) → ExhaustedAreTheSame kinds }
+{}
+
+/// Ghost lemma: the caller of a flow may be one more process (Kahn 1974). Suppose that what it has fed is at each time a
+/// prefix of what some function gives for what it has drained by then. Then what left an output, with what is in it, is a
+/// prefix of its stream in every solution of the equations of the network and this function together, and in every
+/// pre-fixed point of them. Holds for all kinds, networks and functions.
+pub fn own_processes()
+    ensures { (kinds : Family) → OwnProcessesAreBelow kinds }
 {}

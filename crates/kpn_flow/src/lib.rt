@@ -28,5 +28,5 @@ mod waits;
 pub use counts::Counts;
 pub use ends::{FlowFault, stops_at_once};
 pub use flow::{Flow, FlowRefused};
-pub use law::{comparable, preloading};
+pub use law::{comparable, own_processes, preloading};
 pub use pause::Pause;
