@@ -88,7 +88,8 @@ pub fn not_run<B: Body>(refused: OpenRefused<B>) -> Failure<B>
 /// The failure of a run in which the machine refused this answer.
 pub fn lost<B: Body>(finished: Finished<B>) -> Failure<B>
     ensures not_run { (n : NetV) (bs : _) (fault : OpenFaultV) → result ≢ Failure.NotRun n bs fault }
-    ensures lost { (a : Input) (b : _) → result ≡ Failure.Lost a b → (a ≡ finished) × (B.card b ≡ a.card) }
+    ensures lost { (a : Input) (b : _) → result ≡ Failure.Lost a b → B.card b ≡ a.card }
+    ensures answer { (a : Input) (b : _) → result ≡ Failure.Lost a b → a ≡ finished }
 {
     let (answered, body) = finished.into_parts();
     Failure::Lost { answered, body }
