@@ -150,7 +150,11 @@ fn compare_found<R: Abort>(rt: &R, net: &Net<CountAndSink>) {
     same(rt, "outputs", outputs, [first, none, none]);
     let inputs = [net.input_at(1, 0), net.input_at(0, 0), net.input_at(1, 3)];
     same(rt, "inputs of processes", inputs, [first, none, none]);
-    let outputs = [net.output_at(0, 0), net.output_at(0, 1), net.output_at(0, 3)];
+    let outputs = [
+        net.output_at(0, 0),
+        net.output_at(0, 1),
+        net.output_at(0, 3),
+    ];
     same(rt, "outputs of processes", outputs, [first, none, none]);
 }
 
