@@ -28,9 +28,7 @@ fn say_unknown_format<R: Eprint>(rt: &R, fault: FormatFault<'_>) {
             eprintln!(rt; "hox: --format: unknown format {name:?}; there are {FORMATS}")
         }
         FormatFault::Key(key) => {
-            eprintln!(rt;
-                "hox: --format: unknown setting {key:?}; see hox run --help"
-            )
+            eprintln!(rt; "hox: --format: unknown setting {key:?}; see hox run --help")
         }
         FormatFault::Value { key, value } => {
             eprintln!(rt; "hox: --format: {key} can't be {value:?}; see hox run --help")
@@ -73,9 +71,7 @@ pub(crate) fn say_head<R: Eprint>(rt: &R, file: &str, fault: HeadFault) {
             let what = wrong_with_wav(fault);
             eprintln!(rt; "hox: {file} {what}")
         }
-        HeadFault::NoColumn => {
-            eprintln!(rt; "hox: {file}: no column has the name in --format")
-        }
+        HeadFault::NoColumn => { eprintln!(rt; "hox: {file}: no column has the name in --format") }
         HeadFault::Names(fault) => {
             let what = wrong_with_names(fault);
             eprintln!(rt; "hox: line 1 of {file} {what}")

@@ -59,7 +59,9 @@ fn say_fault<R: Eprint + AllocGlobal>(rt: &R, file: &str, asked: &Asked<'_>, fau
             say_no_memory(rt);
         }
         Fault::Lost => {
-            let _ = eprintln!(rt; "hox: internal error: a worker's answer was rejected; the run was abandoned");
+            let _ = eprintln!(rt;
+                "hox: internal error: a worker's answer was rejected; the run was abandoned"
+            );
         }
     }
 }
@@ -97,11 +99,7 @@ pub(crate) fn say_refused<R: Eprint + AllocGlobal>(rt: &R, file: &str, refused: 
     let text = refused.text.as_slice();
     say_wrong(rt, file, text, refused.fault);
     if wants_version_2(rt.alloc(), text, refused.fault) {
-        say_of(
-            rt,
-            file,
-            "version = 2 allows it",
-        );
+        say_of(rt, file, "version = 2 allows it");
     }
 }
 
@@ -181,7 +179,9 @@ fn say_no_pair<R: Eprint>(rt: &R, option: &str, text: &str) {
 
 /// Says that standard input is named more than once.
 fn say_input_named_twice<R: Eprint>(rt: &R) {
-    let _ = eprintln!(rt; "hox: standard input is named twice, but can be read only once; use a file");
+    let _ = eprintln!(rt;
+        "hox: standard input is named twice, but can be read only once; use a file"
+    );
 }
 
 /// Says why a file of tokens is refused.

@@ -61,7 +61,9 @@ fn say_stream_stop<R: Print + Eprint + AllocGlobal>(rt: &R, stop: StreamStop<'_>
 
 /// Says that more than one stream goes to standard output, and returns the exit status.
 fn say_output_named_twice<R: Eprint>(rt: &R) -> u8 {
-    let _ = eprintln!(rt; "hox: standard output is named twice, but takes only one stream; use a file");
+    let _ = eprintln!(rt;
+        "hox: standard output is named twice, but takes only one stream; use a file"
+    );
     Status::WrongArguments.code()
 }
 
