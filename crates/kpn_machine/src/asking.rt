@@ -52,10 +52,9 @@ pub fn ask_ready<B: Body, H: Keeper>(
             return most - left;
         };
         let Question { body, local, last } = question_to(net, &core.store, bodies, process);
-        let has_read = last.is_some();
-        let answer = body.answer(*local, *last);
+        let answer = body.answer(local, last);
         let is_ready = react_ready(net, core, process, answer);
-        *again = if is_ready && goes_on_after(answer.act, has_read) {
+        *again = if is_ready && goes_on_after(answer.act, last) {
             Some(process)
         } else {
             None
@@ -68,14 +67,14 @@ pub fn ask_ready<B: Body, H: Keeper>(
 /// The body of a process, with its local state and last token.
 struct Question<'a, B: Body> {
     body: &'a B,
-    local: &'a Local,
-    last: &'a Option<Token>,
+    local: Local,
+    last: Option<Token>,
 }
 
 #[inline(always)]
 fn question_to<'a, B: Body, H: Keeper>(
     net: &Net<B::Kinds>,
-    store: &'a Store<H>,
+    store: &Store<H>,
     bodies: &'a [Option<B>],
     process: usize,
 ) -> Question<'a, B>
@@ -84,7 +83,7 @@ fn question_to<'a, B: Body, H: Keeper>(
     requires within { process < length store.now.state.processes }
     requires live { status store.now.state process ≢ Done }
     ensures card { B.card result.body.now ≡ card_of net.now process }
-    ensures status { status store.now.state process ≡ Live result.local.now result.last.now }
+    ensures status { status store.now.state process ≡ Live result.local result.last }
 {
     let Status::Live { local, last } = store.status(process) else {
         unreachable!()
@@ -92,16 +91,20 @@ fn question_to<'a, B: Body, H: Keeper>(
     let Some(body) = &bodies[process] else {
         unreachable!()
     };
-    Question { body, local, last }
+    Question {
+        body,
+        local: *local,
+        last: *last,
+    }
 }
 
-/// Whether a process is likely to do its next act at once after this one; `has_read` says that the one before was a
-/// read. After a read most processes write, or read their next port. After a write they wait for their reader, and
-/// after two reads of port 0 for their writer.
+/// Whether a process is likely to do its next act at once after this one, before which it read `last`. After a read most
+/// processes write, or read their next port. After a write they wait for their reader, and after two reads of port 0 for
+/// their writer.
 #[inline(always)]
-fn goes_on_after(act: Act, has_read: bool) -> bool {
+fn goes_on_after(act: Act, last: Option<Token>) -> bool {
     match act {
-        Act::Read(port) => !has_read || port > 0,
+        Act::Read(port) => last.is_none() || port > 0,
         Act::Write(..) | Act::Stop => false,
     }
 }

@@ -6,7 +6,7 @@ use Rattle.kpn_machine.proofs.AskedInTurn.{asked_moves, asked_more, bodies_stay}
 use Rattle.kpn_machine.proofs.asking.ask_ready.Goals as goal
 
 pub react_ready-is_ready-requires-clause-wants : goal.react_ready-is_ready-requires-clause-wants
-react_ready-is_ready-requires-clause-wants g c κs within = rw (c.question_to.ensures.status, c.answer-answer.ensures, c.question_to.ensures.card) refl
+react_ready-is_ready-requires-clause-wants g c κs within = rw (c.question_to-last.ensures.status, c.answer-answer.ensures, c.question_to-last.ensures.card) refl
 
 pub loop-left-preserved : goal.loop-left-preserved
 loop-left-preserved g c =
@@ -18,7 +18,7 @@ loop-left-preserved g c =
       process = c.in-Some.process;
       ready = c.in-Some.ensures.some;
       answer = c.answer-answer.result;
-      wanted = rw (c.question_to.ensures.status, c.answer-answer.ensures, c.question_to.ensures.card) refl;
+      wanted = rw (c.question_to-last.ensures.status, c.answer-answer.ensures, c.question_to-last.ensures.card) refl;
       reacts = rw c.turn.ensures.same at reacts.1;
       keeps = c.react_ready-is_ready.ensures.coherent.keeps;
     } in
