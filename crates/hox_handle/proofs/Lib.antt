@@ -1,3 +1,4 @@
+pub mod Crossing
 mod Named
 mod OneMore
 mod Opened

@@ -78,3 +78,15 @@ impl HoxFlow {
         }
     }
 }
+
+// A struct with `also_owns` is not `Send` by itself. This one is, by proof: what a session owns is no thread's own. So a
+// caller in C may pass a flow to another thread. A check wants that proof only where it is used, as below.
+unsafe impl Send for HoxFlow {}
+
+/// Ghost lemma: a flow may go to another thread.
+fn assure_sends() {
+    sends::<HoxFlow>();
+}
+
+/// Is for what may go to another thread.
+fn sends<T: Send>() {}
