@@ -52,8 +52,8 @@
  *     3. What a call writes overlaps no other argument of the call.
  *     4. A hox_flow is HOX_FLOW_CLOSED before its first call, and only these functions write it. It may be moved, but
  *        only one of its copies is used.
- *     5. A flow takes one call at a time, always from the thread that opened it. Different threads may use different
- *        flows at once.
+ *     5. A flow takes one call at a time. Another thread may take it over if a lock, the start or the join of a thread,
+ *        or a sequentially consistent atomic orders that. Different threads may use different flows at once.
  *     6. No call comes from a signal handler, or from the forked child of a process with several threads.
  *
  * TEXTS

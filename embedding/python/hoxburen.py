@@ -29,7 +29,7 @@ without a copy.
 The engine is a shared library, libhoxburen.so. This module looks for it in the folder named by the environment variable
 HOXBUREN_LIB, then where the repository and `tools/install` put it, then where the system looks.
 
-Flows of different threads run in parallel. A flow takes calls only from the thread that opened it.
+Flows of different threads run in parallel. A flow that several threads share takes one call at a time.
 """
 
 from __future__ import annotations
@@ -408,7 +408,7 @@ class Input:
         call, raises `FlagRefused`; it and the words waiting behind it are dropped.
         """
         view = _words(words)
-        with self._flow._here:
+        with self._flow._lock:
             self._refuse_if_over()
             fed = self._flow._feed_on(self, view)
             self._queue.put(array("Q", view[fed:].tobytes()))
@@ -416,14 +416,14 @@ class Input:
     def offer(self, words: Iterable[int]) -> int:
         """Feeds as many of the words as fit now, and returns how many. The network does not advance."""
         view = _words(words)
-        with self._flow._here:
+        with self._flow._lock:
             self._refuse_if_over()
             self._flow._feed_waiting(self)
             return 0 if self._queue else self._flow._feed(self, view)
 
     def end(self) -> None:
         """Ends the input: `feed` and `offer` then fail. Waiting words are still fed."""
-        with self._flow._here:
+        with self._flow._lock:
             self._flow._check_open()
             self._is_over = True
             self._flow._feed_waiting(self)
@@ -483,7 +483,7 @@ class Output:
 
     def __iter__(self) -> Iterator[int]:
         while True:
-            with self._flow._here:
+            with self._flow._lock:
                 if not self._queue:
                     if not self._flow._go_on(self):
                         return
@@ -496,7 +496,7 @@ class Output:
         many, or no more come unless an input is fed. If the network writes forever, give a limit."""
         words = array(self._code)
         while most is None or len(words) < most:
-            with self._flow._here:
+            with self._flow._lock:
                 if not self._queue:
                     if not self._flow._go_on(self):
                         break
@@ -522,7 +522,7 @@ class Output:
         if view is None:
             raise TypeError("it has no buffer protocol")
         done = 0
-        with self._flow._here:
+        with self._flow._lock:
             self._flow._check_open()
             while done < len(view):
                 if self._queue:
@@ -559,28 +559,11 @@ class Output:
         return self._flow._fill("hox_output_fill", self._place)[1]
 
 
-class _OneThread:
-    """Lets calls in from the thread that made it alone."""
-
-    def __init__(self) -> None:
-        self._thread = threading.get_ident()
-
-    def is_here(self) -> bool:
-        return threading.get_ident() == self._thread
-
-    def __enter__(self) -> None:
-        if not self.is_here():
-            raise RuntimeError("a flow takes calls only from the thread that opened it")
-
-    def __exit__(self, *_: object) -> None:
-        pass
-
-
 class Flow:
     """The network of a description's text, fed, run and drained. `open` makes one, and `with` closes it."""
 
     def __init__(self, text: Union[str, bytes], inputs: Iterable[str], outputs: Iterable[str]) -> None:
-        self._here = _OneThread()
+        self._lock = threading.RLock()
         self._session, self._library = _Session(), _library()
         self._text = text.encode() if isinstance(text, str) else bytes(text)
         self.inputs: Dict[str, Input] = {name: Input(self, name, place) for place, name in enumerate(_listed(inputs, Number.NO_INPUT))}
@@ -602,8 +585,7 @@ class Flow:
         self.close()
 
     def __del__(self) -> None:
-        # Another thread may collect it, and must not call the library with it.
-        if getattr(self, "_session", None) and self._here.is_here():
+        if getattr(self, "_session", None):
             self._library.hox_close(self._session)
 
     def __repr__(self) -> str:
@@ -619,7 +601,7 @@ class Flow:
 
     def close(self) -> None:
         """Closes the flow and frees its memory. Does nothing if it is closed."""
-        with self._here:
+        with self._lock:
             self._library.hox_close(self._session)
 
     @property
@@ -630,7 +612,7 @@ class Flow:
     def advance(self, most: int = (1 << 64) - 1) -> Pause:
         """Runs the flow for at most `most` entries, and returns why it stopped. (An entry is a word read or written, a
         process's stop or a channel's growth.) If the network runs forever, give a limit."""
-        with self._here:
+        with self._lock:
             return self._advance(most)
 
     @property
@@ -650,20 +632,20 @@ class Flow:
 
     def report(self) -> str:
         """Returns how the flow, each process and each channel stands, in lines."""
-        with self._here:
+        with self._lock:
             number, text = _told(lambda *out: self._library.hox_report(self._session, *out))
         if number:
             raise _refused(number)
         return text
 
-    # The callers of the methods below ask whether the thread is the flow's, except of _ask and _fill, which ask it.
+    # The methods below need the lock, except _ask and _fill, which take it.
 
     def _check_open(self) -> None:
         if self.is_closed:
             raise FlowClosed(Number.CLOSED)
 
     def _ask(self, function: str, place: Optional[int], value: Any) -> int:
-        with self._here:
+        with self._lock:
             number = getattr(self._library, function)(self._session, *([] if place is None else [place]), ctypes.byref(value))
         if number:
             raise _refused(number)
@@ -671,7 +653,7 @@ class Flow:
 
     def _fill(self, function: str, place: Optional[int]) -> Tuple[int, int]:
         one, other = ctypes.c_uint64(), ctypes.c_uint64()
-        with self._here:
+        with self._lock:
             places = [] if place is None else [place]
             number = getattr(self._library, function)(self._session, *places, ctypes.byref(one), ctypes.byref(other))
         if number:

@@ -2,7 +2,7 @@
 //!
 //!     drive flow < TEXT
 //!     drive check FILE..
-//!     drive threads         two threads, each with a flow
+//!     drive threads         two threads, each with a flow, one of which was opened elsewhere
 use hoxburen::{End, Flow, Input, Output, Pause, Reason, Refused, check, run};
 use std::error::Error;
 use std::io::Read;
@@ -185,9 +185,10 @@ fn sum(mut flow: Flow, words: std::ops::Range<u64>) -> Result<u64, Refused> {
 }
 
 fn threads() -> Outcome {
-    let of = |words| std::thread::spawn(|| sum(Flow::open(DOUBLER, &["x"], &["y"])?, words));
-    let (one, other) = (of(0..50_000), of(50_000..100_000));
-    let sums = [one.join().unwrap()?, other.join().unwrap()?];
+    let opened = Flow::open(DOUBLER, &["x"], &["y"])?;
+    let moved = std::thread::spawn(move || sum(opened, 0..50_000));
+    let own = std::thread::spawn(|| sum(Flow::open(DOUBLER, &["x"], &["y"])?, 50_000..100_000));
+    let sums = [moved.join().unwrap()?, own.join().unwrap()?];
     assert_eq!(sums, [50_000 * 49_999, 100_000 * 99_999 - 50_000 * 49_999]);
     let mut refused = Flow::open(DOUBLER, &["x"], &["y"])?;
     assert_eq!(refused.feed(Input(7), &[1]).map_err(|it| it.reason()), Err(Reason::NoChannel));

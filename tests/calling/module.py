@@ -317,22 +317,19 @@ class Threads(unittest.TestCase):
 
         self.run_all(use, use)
 
-    def test_another_threads_flow(self):
+    def test_a_shared_flow(self):
+        sums = []
         with hoxburen.open(DOUBLER) as flow:
-            x, y = flow["x"], flow["y"]
-            calls = [lambda: x.feed([1]), lambda: x.offer([1]), x.end, y.drain, y.poll, flow.advance, flow.report, flow.close, lambda: flow.verdict, lambda: x.held]
-            refused = []
 
             def use():
-                for call in calls:
-                    with self.assertRaises(RuntimeError):
-                        call()
-                    refused.append(call)
+                got = 0
+                for _ in range(2000):
+                    flow["x"].feed([1])
+                    got += sum(flow["y"].drain(1))
+                sums.append(got)
 
-            self.run_all(use)
-            self.assertEqual(refused, calls)
-            x.feed([21])
-            self.assertEqual(y.drain(), array("Q", [42]))
+            self.run_all(use, use, use)
+            self.assertEqual(sum(sums) + sum(flow["y"]), 3 * 2 * 2000)
 
 
 class Help(unittest.TestCase):

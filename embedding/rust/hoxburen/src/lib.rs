@@ -86,13 +86,12 @@ use core::cell::UnsafeCell;
 use core::ffi::c_char;
 use core::fmt;
 use core::iter::FusedIterator;
-use core::marker::PhantomData;
 
 /// A network that is fed, run and drained.
 ///
-/// It stays in the thread that opened it: it is neither [`Send`] nor [`Sync`].
+/// It may move to another thread ([`Send`]), but takes calls from one at a time: it is not [`Sync`].
 ///
-/// ```compile_fail,E0277
+/// ```
 /// fn sends<T: Send>() {}
 /// sends::<hoxburen::Flow>();
 /// ```
@@ -105,9 +104,11 @@ pub struct Flow {
     // Open from `Flow::open` until dropped. The library takes a mutable pointer, even in calls that only
     // look.
     raw: UnsafeCell<sys::Flow>,
-    // A pointer is neither `Send` nor `Sync` (DUTIES of hoxburen.h, 5).
-    stays: PhantomData<*mut sys::Flow>,
 }
+
+// SAFETY: a flow may move to another thread if its calls are ordered (DUTIES of hoxburen.h, 5); its only
+// owner orders them.
+unsafe impl Send for Flow {}
 
 /// An input of a flow: its place among the names given to [`Flow::open`].
 #[derive(Clone, Copy, Debug, PartialEq, Eq, Hash, PartialOrd, Ord)]
@@ -184,7 +185,6 @@ impl Flow {
         answer(number, 0, message)?;
         Ok(Flow {
             raw: UnsafeCell::new(raw),
-            stays: PhantomData,
         })
     }
 
