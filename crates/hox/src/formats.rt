@@ -28,7 +28,9 @@ fn say_unknown_format<R: Eprint>(rt: &R, fault: FormatFault<'_>) {
             eprintln!(rt; "hox: --format: unknown format {name:?}; there are {FORMATS}")
         }
         FormatFault::Key(key) => {
-            eprintln!(rt; "hox: --format: unknown setting {key:?}; see hox run --help")
+            eprintln!(rt;
+                "hox: --format: the format has no setting written as {key:?}; see hox run --help"
+            )
         }
         FormatFault::Value { key, value } => {
             eprintln!(rt; "hox: --format: {key} can't be {value:?}; see hox run --help")
