@@ -6,7 +6,7 @@ import re
 
 import hox_rules
 import networks
-from hox_rules import FORMATS, MAY_BE_NEGATIVE, Request, Written, check_of, outcomes, prepared
+from hox_rules import FORMATS, MAY_BE_NEGATIVE, Request, Written, check_of, expand_of, outcomes, prepared
 from interpreter import CEILING, GREATEST_BUDGET, SIGNALS, WORD, Network, brought, token_text
 from networks import pick, tables
 from program import Program
@@ -163,6 +163,37 @@ def full_request(choices, versions):
     return Request(networks.plain(network), tokens=[("c0", "in")], files={"in": text}, outputs=[("c0", "out")])
 
 
+def endless_request(choices, versions):
+    """Words of a file that are added to an endless source, whose channel grows to its ceiling once they are used up; at times
+    that channel is written out too, which then could go on."""
+    network = {
+        "version": 1,
+        "process": [
+            {"name": "src", "kind": "input"},
+            {"name": "more", "kind": choices.choice(networks.ENDLESS), "args": []},
+            {"name": "sum", "kind": "add"},
+            {"name": "snk", "kind": choices.choice(["drain", "sink"]), "args": []},
+        ],
+        "channel": [
+            {"name": "x", "from": "src", "to": "sum"},
+            {"name": "k", "from": "more", "to": "sum", "in": 1},
+            {"name": "y", "from": "sum", "to": "snk"},
+        ],
+    }
+    for it in network["process"]:
+        if it["kind"] in ("constant", "sink"):
+            it["args"] = [choices.randint(0, 9)]
+    words = [choices.randint(0, 9) for _ in range(choices.randint(0, 5))]
+    outputs = choices.choice([[], ["y"], ["y"], ["x", "y"], ["y", "k"]])
+    return Request(
+        networks.plain(network),
+        tokens=[("x", "in")],
+        files={"in": "".join(f"{it}\n" for it in words).encode()},
+        outputs=[(name, f"out{n}") for n, name in enumerate(outputs)],
+        show=choices.choice([[], [], ["y"], ["x"]]),
+    )
+
+
 def without_sorts(network):
     """The network, of whose channels nothing says which sort they are but their ports."""
     return {**network, "channel": [{key: it[key] for key in it if key != "sort"} for it in network["channel"]]}
@@ -174,20 +205,48 @@ def with_negatives(choices, network):
     for it in network["process"]:
         if it["kind"] in MAY_BE_NEGATIVE and choices.random() < 0.6:
             args = [-1 - arg if choices.random() < 0.6 else arg for arg in it["args"]]
-            it["args"] = sorted(args) if choices.random() < 0.97 else args
+            args[1:] = args[1:] if it["kind"] == "clip" else it["args"][1:]
+            it["args"] = sorted(args) if it["kind"] == "clip" and choices.random() < 0.97 else args
     for it in network["channel"]:
         if "tokens" in it:
             it["tokens"] = [-1 - token if type(token) is int and choices.random() < 0.4 else token for token in it["tokens"]]
 
 
+def with_fans(choices, network):
+    """Lets more channels leave the outputs of some, each to a drain, at any place among the others. Names may be such as
+    copies would have."""
+    often = pick(choices, (0, 4), (0.15, 3), (0.6, 1))
+    channels = network["channel"]
+    for it in list(channels):
+        while choices.random() < often:
+            taken = {it["name"] for it in network["process"] + channels}
+            name = next(it for it in [f"copy_{choices.randint(0, 9)}", *(f"d{n}" for n in range(1000))] if it not in taken)
+            network["process"].append({"name": name, "kind": "drain_flags" if it.get("sort") == "flags" else "drain"})
+            more = {key: it[key] for key in ("from", "out", "sort") if key in it}
+            channels.insert(choices.randint(0, len(channels)), {"name": name, **more, "to": name})
+
+
+def with_delays(choices, network):
+    """Has some channels delay, few by a number that none can; in version 1 by a key that it doesn't have."""
+    if network.get("version") != 2 and choices.random() < 0.97:
+        return
+    often = pick(choices, (0, 3), (0.2, 2), (0.7, 1))
+    for it in network["channel"]:
+        if choices.random() < often:
+            it["delay"] = pick(choices, (0, 2), (1, 6), (choices.randint(2, 9), 8), (choices.randint(10, 300), 2), (choices.choice([-1, 1000001, 2 ** 63 - 1, -2 ** 63, True, "1"]), 0.2))
+
+
 def request_of(choices, versions):
     """A request, and what was done to its network."""
-    if choices.random() < 0.004 and 1 in versions:
-        return full_request(choices, versions), "full"
+    if choices.random() < 0.008 and 1 in versions:
+        how = choices.choice(["full", "endless"])
+        return (full_request if how == "full" else endless_request)(choices, versions), how
     if choices.random() < 0.02:
         return Request(toml_text(choices)), "toml"
     network = networks.network(choices, versions)
     with_negatives(choices, network)
+    with_fans(choices, network)
+    with_delays(choices, network)
     network.setdefault("budget", 4000)
     how = pick(choices, ("valid", 18), ("edited", 1), ("bytes", 1))
     if how == "edited":
@@ -240,18 +299,19 @@ class HoxCase:
         """What the program writes, if it is nothing that may be written, and the runs made."""
         request = Request(**{**vars(self.request), "text": text})
         with brought(SIGNALS):
-            expected, checked = outcomes(request, self.seed, self.versions), check_of(request, self.versions)
+            expected, checked, written_out = outcomes(request, self.seed, self.versions), check_of(request, self.versions), expand_of(request, self.versions)
         choices = random.Random(text)
         runs = [("run", workers, expected) for workers in all_workers]
         if isinstance(expected[0], hox_rules.Stopped):
             runs = [choices.choice(runs), ("check", 1, [checked])]
-        elif choices.random() < 0.1:
-            runs.append(("check", 1, [checked]))
+        elif choices.random() < 0.2:
+            runs.append(choices.choice([("check", 1, [checked]), ("expand", 1, [written_out])]))
         found, made = [], 0
         for command, workers, may_be in runs * repeats:
             made += 1
             written = runner.run(request, command, workers)
-            faults = [it.fault(request, written) for it in may_be]
+            with brought(SIGNALS):
+                faults = [it.fault(request, written) for it in may_be]
             if None not in faults:
                 found.append((request.words(command, workers), f"{written}: {' or '.join(faults)}"))
         return [it.kind() for it in expected], found, made

@@ -3,11 +3,12 @@ run, and what goes where. It shares nothing with the engine."""
 import re
 from collections import namedtuple
 from dataclasses import dataclass, field
+from itertools import count, filterfalse, islice
 
-from interpreter import CEILING, GREATEST_BUDGET, KINDS, SORTS, STATUS, WORD, Network, Refused, args_fit, document, load, text_of, token_text
+from interpreter import CEILING, GREATEST_BUDGET, KINDS, SORTS, STATUS, WORD, Network, Refused, args_fit, document, is_integer, load, text_of, token_text
 
 MOST_TOKENS = 1000000
-MAY_BE_NEGATIVE = ("constant", "hold", "clip", "scale", "prefix")
+MAY_BE_NEGATIVE = ("constant", "hold", "clip", "scale", "prefix", "offset", "gain")
 VERDICTS = {"terminated": "finished", "budget": "cut", "ceiling": "full"}
 
 # What the program wrote on standard output and standard error, its exit status, and the files that were there afterwards.
@@ -29,11 +30,11 @@ class Request:
     quiet: bool = False
 
     def words(self, command, workers):
-        words = [command, self.description]
+        words = ["check", self.description, "--expanded"] if command == "expand" else [command, self.description]
         words += [it for channel, file in self.tokens for it in ("--tokens", f"{channel}={file}")]
-        used = dict(self.tokens) if command == "check" else dict([*self.tokens, *self.outputs])
+        used = dict(self.tokens) if command in ("check", "expand") else dict([*self.tokens, *self.outputs])
         words += [it for channel, said in self.formats.items() if channel in used for it in ("--format", f"{channel}={said}")]
-        if command == "check":
+        if command in ("check", "expand"):
             return words
         words += [it for channel, file in self.outputs for it in ("--out", f"{channel}={file}")]
         words += [it for name in self.show for it in ("--show", name)]
@@ -162,19 +163,75 @@ def as_words(sketch):
     return sketch
 
 
+def written_out(sketch):
+    """The description with its copies: where several channels leave an output, the first copy reads it, and each writes to
+    its channel and to the next copy, the last to the last two. The copy at channel number k has free name k, and so has the
+    channel to it; but that to the first copy of an input has the name and the capacity of channel k, which gets the copy's."""
+    processes, channels = sketch["process"], sketch["channel"]
+    if not 1 <= len(processes) <= 64 or len(channels) > 256:
+        return sketch
+    taken = {it["name"] for it in processes + channels}
+    names = list(islice(filterfalse(taken.__contains__, map("copy_{}".format, count())), len(channels)))
+    fans = {}
+    for k, it in enumerate(channels):
+        fans.setdefault((it["from"], it["out"]), []).append(k)
+    made = {}
+    for (name, out), fan in fans.items():
+        sort = port_sort(processes, name, "out", out)
+        if sort is None:
+            continue
+        for k in fan[:-1]:
+            copy = {"name": names[k], "kind": {"words": "copy", "flags": "copy_flags"}[sort], "args": []}
+            link = {"name": names[k], "from": name, "out": out, "to": names[k], "in": 0, "sort": sort, "capacity": 1, "tokens": []}
+            made[k] = copy, link
+            kinds = [it["kind"] for it in processes if it["name"] == name]
+            if k == fan[0] and kinds[0] in ("input", "input_flags"):
+                link.update({key: channels[k][key] for key in ("name", "capacity")})
+                channels[k]["name"] = names[k]
+            channels[k].update({"from": names[k], "out": 0})
+            name, out = names[k], 1
+        channels[fan[-1]].update({"from": name, "out": out})
+    for k in sorted(made):
+        processes.append(made[k][0])
+        channels.append(made[k][1])
+    return sketch
+
+
+def sort_by_ports(processes, it):
+    """The sort of a channel's ports where these agree, else the one that it has."""
+    sorts = {port_sort(processes, it["from"], "out", it["out"]), port_sort(processes, it["to"], "in", it["in"])}
+    return sorts.pop() if len(sorts) == 1 and None not in sorts else it["sort"]
+
+
 def by_ports(sketch):
     """The description, in which each channel has the sort of its ports where these agree."""
     for it in sketch["channel"]:
-        sorts = {port_sort(sketch["process"], it["from"], "out", it["out"]), port_sort(sketch["process"], it["to"], "in", it["in"])}
-        if len(sorts) == 1 and None not in sorts:
-            it["sort"] = sorts.pop()
+        it["sort"] = sort_by_ports(sketch["process"], it)
+    return sketch
+
+
+# The key of channels that hox alone knows.
+DELAYS = {"delay": (is_integer, 0)}
+
+
+def delayed(sketch):
+    """The description, in whose channels as many zeros as they delay by come before the start tokens, with room for all. A
+    delay that no channel has room for becomes the capacity."""
+    for it in sketch["channel"]:
+        delay = it.pop("delay", 0)
+        if 0 < delay <= CEILING[2]:
+            zero = {"words": 0, "flags": False}[sort_by_ports(sketch["process"], it)]
+            it["tokens"] = [zero] * delay + it["tokens"]
+            it["capacity"] = max(it["capacity"], len(it["tokens"]))
+        elif delay:
+            it["capacity"] = delay
     return sketch
 
 
 def prepared(request, versions):
     """The description, with the tokens of the files in its channels."""
     try:
-        sketch = load(request.text, versions, lambda sketch: by_ports(as_words(sketch)))
+        sketch = load(request.text, versions, lambda sketch: by_ports(written_out(delayed(as_words(sketch)))), DELAYS)
     except Refused:
         raise Stopped(2, "" if request.description == "-" else f"{request.description}: ") from None
     for name, file in request.tokens:
@@ -216,6 +273,35 @@ def verdict_of(net, cause):
     return " ".join(["cycle", *circles[0]]) if circles else "ran dry"
 
 
+# Dry processes: those that do nothing more, whatever others do.
+
+def dry_ones(stopped, waiting):
+    """The processes that have stopped, and those that wait to read an empty channel from a dry one. `waiting` gives each
+    process that waits so the writer of the channel."""
+    dry, found = set(), set(stopped)
+    while found:
+        dry |= found
+        found = {process for process, writer in waiting.items() if writer in dry} - dry
+    return dry
+
+
+def dry_in(net):
+    """The names of the dry processes of a network."""
+    waiting = {it.name: it.channel().writer.name for it in net.processes if not it.done and it.wants and it.wants[0] == "reads" and not it.channel().holds}
+    return dry_ones((it.name for it in net.processes if it.done), waiting)
+
+
+def has_all(request, net, dry):
+    """Whether some stream is written out, and each is of a channel whose writer is dry."""
+    names = {*request.show, *(name for name, _ in request.outputs)}
+    return bool(names) and all(it.writer.name in dry for it in net.channels if it.name in names)
+
+
+def active_line(net, dry):
+    """The line with the processes that could go on."""
+    return " ".join(["active", *(it.name for it in net.processes if it.name not in dry)]) + "\n"
+
+
 # The run.
 
 def stream_of(net, name):
@@ -251,7 +337,9 @@ def unused(net, given):
     return "".join(f"hox: {line}\n" for line in lines).encode()
 
 
-# What is said of a run that was cut: which channels have no tokens depends on the schedule.
+# What is said of a run that was cut: which channels have no tokens depends on the schedule. If it ran dry, it is said how
+# many tokens were not read, and nothing of the budget.
+DRY = re.compile(rb"(?:hox: channel \w+: (?:no tokens; --tokens \w+=FILE gives some|[\w. ]+ has no tokens|\d+ of its \d+ tokens were not read)\n)*\Z")
 CUT = re.compile(rb"((?:hox: channel \w+: (?:no tokens; --tokens \w+=FILE gives some|[\w. ]+ has no tokens)\n)*)hox: the budget of (\d+) entries is spent; --budget allows up to 1000000, in version 2 up to 2000000, and hox stream has no budget\n")
 
 
@@ -268,10 +356,13 @@ class Ended:
     """A run that came to its own end: what is written is the same for all schedules."""
 
     def __init__(self, request, net, cause):
-        self.verdict = verdict_of(net, cause)
+        dry = dry_in(net)
+        is_early = cause == "ceiling" and has_all(request, net, dry)
+        self.verdict = "ran dry" if is_early else verdict_of(net, cause)
         self.status = 0 if self.verdict == "ran dry" else STATUS[cause]
         shown = text_of(tokens_line("stream", name, stream_of(net, name)) for name in request.show)
-        report = net.report(cause, None) + shown + f"verdict {self.verdict}\n".encode()
+        active = active_line(net, dry) if is_early else ""
+        report = net.report(cause, None) + shown + f"verdict {self.verdict}\n{active}".encode()
         streams = {name: request.format_of(name).text(stream_of(net, name)) for name, _ in request.outputs}
         output, errors, files = due(request, report, streams)
         self.due = output, errors + unused(net, dict(request.tokens)), files
@@ -295,7 +386,8 @@ def places_of(process):
 class Cut:
     """A run that its budget cut: of each stream and that of the interpreter's own run, which is longer, one begins with the
     other; and the streams have as many tokens as so many entries have that are no reads. The report says of each process
-    that it was ready, has stopped or waits at a channel of its own, and then the streams so far that it shows, in order."""
+    that it was ready, has stopped or waits at a channel of its own, and then the streams so far that it shows, in order. It
+    ran dry exactly if by these the writers of all streams that are written out are dry; then no stream goes on."""
 
     def __init__(self, request, net, budget):
         self.net, self.budget = net, budget
@@ -307,33 +399,49 @@ class Cut:
     def fault(self, request, written):
         texts = {name: written.files.get(file, b"") for name, file in request.outputs if file != "-"}
         texts.update({name: written.output for name, file in request.outputs if file == "-"})
-        said = CUT.search(written.errors)
-        if said is None or said.end() != len(written.errors) or int(said[2]) != self.budget:
+        is_dry = written.status == 0
+        said = (DRY if is_dry else CUT).search(written.errors)
+        if said is None or not is_dry and (said.end() != len(written.errors) or int(said[2]) != self.budget):
             return f"expected that standard error ends with the budget of {self.budget}"
         written = written._replace(errors=written.errors[: said.start()])
         report = written.errors if "-" in dict(request.outputs).values() else written.output
         output, errors, files = due(request, report, texts)
-        if written != Written(output, errors, STATUS["budget"], files):
-            return f"expected status 3, {output} on standard output, {errors} on standard error, and the files {sorted(files)}"
-        shown = [] if request.quiet else self.shown_in(request, report.decode())
+        status = 0 if is_dry else STATUS["budget"]
+        if written != Written(output, errors, status, files):
+            return f"expected status 3, or 0 if it ran dry, {output} on standard output, {errors} on standard error, and the files {sorted(files)}"
+        shown = [] if request.quiet else self.shown_in(request, report.decode(), is_dry)
         if shown is None:
-            return f"expected a report of a run that was cut, and not {report}"
+            return f"expected a report of a run that was cut, or ran dry, and not {report}"
         formats = {name: request.format_of(name) for name in texts}
         records = {name: formats[name].records(text) for name, text in texts.items()}
-        faults = [*(self.fault_of(name, it, formats[name]) for name, it in records.items()), *(self.fault_of(name, it, Format("text", name)) for name, it in shown)]
+        told = [*((name, it, formats[name]) for name, it in records.items()), *((name, it, Format("text", name)) for name, it in shown)]
+        faults = [self.fault_of(*it, is_dry) for it in told]
         return next(filter(None, faults), self.fault_of_count(records))
 
-    def shown_in(self, request, report):
+    def shown_in(self, request, report, is_dry):
         """The streams that a report shows, each beside the name of its channel; none if it is no report of a run that was
-        cut."""
-        lines = "".join(f"process {it.name} (?:{'|'.join(places_of(it))})\n" for it in self.net.processes)
+        cut, or that ran dry."""
+        lines = "".join(f"process {it.name} ({'|'.join(places_of(it))})\n" for it in self.net.processes)
         prefixes = "".join(f"prefix {name}((?: .+)?)\n" for name in request.show)
-        found = re.fullmatch(f"end budget\nverdict cut\n{lines}{prefixes}", report)
-        return found and [(name, [f"{it}\n".encode() for it in text.split()]) for name, text in zip(request.show, found.groups())]
+        found = re.fullmatch(f"end budget\nverdict (.*\n(?:active.*\n)?){lines}{prefixes}", report)
+        if found is None or is_dry != self.is_dry_by(request, found.groups()):
+            return None
+        texts = found.groups()[1 + len(self.net.processes) :]
+        return [(name, [f"{it}\n".encode() for it in text.split()]) for name, text in zip(request.show, texts)]
 
-    def fault_of(self, name, lines, form):
+    def is_dry_by(self, request, said):
+        """Whether the run ran dry by where it left the processes; neither if that is not what it says."""
+        left = {it.name: place.split() for it, place in zip(self.net.processes, said[1:])}
+        writers = {it.name: it.writer.name for it in self.net.channels}
+        waiting = {name: writers[place[1]] for name, place in left.items() if place[0] == "reads"}
+        dry = dry_ones((name for name, place in left.items() if place == ["stopped"]), waiting)
+        is_dry = has_all(request, self.net, dry)
+        return is_dry if said[0] == (f"ran dry\n{active_line(self.net, dry)}" if is_dry else "cut\n") else None
+
+    def fault_of(self, name, lines, form, is_dry):
+        """Of this stream and the interpreter's one begins with the other; if the run ran dry, the first with the second."""
         whole = list(map(form.record, stream_of(self.net, name)))
-        common = min(len(whole), len(lines))
+        common = len(whole) if is_dry else min(len(whole), len(lines))
         return None if lines[:common] == whole[:common] else f"expected that one of {name} and {whole} begins with the other"
 
     def fault_of_count(self, records):
@@ -377,6 +485,33 @@ class Checked:
 
     def fault(self, request, written):
         return None if written == Written(self.line, b"", 0, {}) else f"expected {self.line}"
+
+
+class Expanded:
+    """A description that is written out: the text has no fan-out, and describes the same network. It has version 2 if it has
+    start tokens."""
+
+    def __init__(self, sketch):
+        is_second = sketch["version"] == 2 or any(it["tokens"] for it in sketch["channel"])
+        self.sketch = {**sketch, "version": 2 if is_second else 1}
+
+    def kind(self):
+        return "hox expanded"
+
+    def fault(self, request, written):
+        try:
+            found = load(written.output, (1, 2), lambda sketch: by_ports(as_words(sketch)))
+        except Refused:
+            found = None
+        return None if found == self.sketch and written == Written(written.output, b"", 0, {}) else f"expected {self.sketch}, and not {found}"
+
+
+def expand_of(request, versions):
+    """What a check comes to that writes the network as a description."""
+    try:
+        return Expanded(prepared(request, versions))
+    except Stopped as stopped:
+        return stopped
 
 
 def check_of(request, versions):

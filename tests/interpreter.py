@@ -15,6 +15,7 @@ import sys
 import tomllib
 from collections import deque
 from contextlib import contextmanager
+from fractions import Fraction
 
 from toml_1_1 import as_1_0
 
@@ -219,6 +220,60 @@ def low_pass(k):
         yield "writes", 0, level % WORD
 
 
+def running_sum():
+    total = 0
+    while True:
+        total += yield "reads", 0
+        yield "writes", 0, total % WORD
+
+
+def difference():
+    before = 0
+    while True:
+        token = yield "reads", 0
+        yield "writes", 0, (token - before) % WORD
+        before = token
+
+
+def average(n):
+    past = deque([0] * n, maxlen=n)
+    while True:
+        token = yield "reads", 0
+        past.append(signed(token))
+        yield "writes", 0, math.floor(Fraction(sum(past), n)) % WORD
+
+
+def counter():
+    count = 0
+    while True:
+        count += yield "reads", 0
+        yield "writes", 0, count
+
+
+def edge():
+    before = False
+    while True:
+        flag = yield "reads", 0
+        yield "writes", 0, flag and not before
+        before = flag
+
+
+def noise(state):
+    """SplitMix64, as java.util.SplittableRandom makes its words."""
+    while True:
+        state = (state + 0x9E3779B97F4A7C15) % WORD
+        word = (state ^ state >> 30) * 0xBF58476D1CE4E5B9 % WORD
+        word = (word ^ word >> 27) * 0x94D049BB133111EB % WORD
+        yield "writes", 0, word ^ word >> 31
+
+
+def gate():
+    while True:
+        token = yield "reads", 0
+        if (yield "reads", 1):
+            yield "writes", 0, token
+
+
 def clipped(word, least, greatest):
     return sorted((least, word, greatest), key=signed)[1]
 
@@ -245,6 +300,21 @@ SIGNALS = {
     "delay": (delay, 1, "w", "w"),
     "low_pass": (low_pass, 1, "w", "w"),
     "clip": (mapped(clipped), 2, "w", "w"),
+    "copy_flags": (copy, 0, "f", "ff"),
+    "min": (joined(lambda left, right: min(left, right, key=signed)), 0, "ww", "w"),
+    "max": (joined(lambda left, right: max(left, right, key=signed)), 0, "ww", "w"),
+    "abs": (mapped(lambda word: abs(signed(word))), 0, "w", "w"),
+    "offset": (mapped(lambda word, k: (word + k) % WORD), 1, "w", "w"),
+    "gain": (mapped(lambda word, a, b: signed(word) * signed(a) // b % WORD), 2, "w", "w"),
+    "div": (joined(lambda left, right: signed(left) // signed(right) % WORD if right else 0), 0, "ww", "w"),
+    "mod": (joined(lambda left, right: signed(left) % signed(right) % WORD if right else left), 0, "ww", "w"),
+    "sum": (running_sum, 0, "w", "w"),
+    "difference": (difference, 0, "w", "w"),
+    "average": (average, 1, "w", "w"),
+    "counter": (counter, 0, "f", "w"),
+    "edge": (edge, 0, "f", "f"),
+    "noise": (noise, 1, "", "w"),
+    "gate": (gate, 0, "wf", "w"),
 }
 
 
@@ -275,6 +345,10 @@ def args_fit(kind, args):
         return args[0] < 64
     if kind == "delay":
         return 1 <= args[0] <= 4
+    if kind == "average":
+        return 1 <= args[0] <= 5
+    if kind == "gain":
+        return 0 < args[1] < WORD // 2
     if kind == "clip":
         return signed(args[0]) <= signed(args[1])
     return True
@@ -393,13 +467,13 @@ TOP_KEYS = {
 }
 
 
-def read_sketch(table, versions):
-    """The description of a document, with its defaults. Version 2 has two more keys."""
+def read_sketch(table, versions, more={}):
+    """The description of a document, with its defaults. Version 2 has two more keys, and `more` of channels."""
     top, channel = dict(TOP_KEYS), dict(CHANNEL_KEYS)
     version = table.get("version")
     if 2 in versions and is_integer(version) and version == 2:
         top["step"] = (is_integer, 1)
-        channel["tokens"] = (is_list_of(is_token), [])
+        channel.update({"tokens": (is_list_of(is_token), []), **more})
     sketch = read_keys(table, top)
     sketch["process"] = [read_keys(it, PROCESS_KEYS) for it in sketch["process"]]
     sketch["channel"] = [{"tokens": [], **read_keys(it, channel)} for it in sketch["channel"]]
@@ -462,9 +536,9 @@ def first_fault(sketch, versions):
     return None
 
 
-def load(text, versions, change=lambda sketch: sketch):
-    """What a text describes, as `change` has it."""
-    sketch = change(read_sketch(document(text), versions))
+def load(text, versions, change=lambda sketch: sketch, more={}):
+    """What a text describes, as `change` has it. Channels of version 2 may have `more` keys."""
+    sketch = change(read_sketch(document(text), versions, more))
     number = first_fault(sketch, versions)
     if number:
         raise Refused(number)

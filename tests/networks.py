@@ -34,12 +34,16 @@ def args_of(choices, kind):
         return [word(choices), length(choices)]
     if kind in ("sink", "take"):
         return [length(choices)]
-    if kind in ("prefix", "scale", "constant", "hold"):
+    if kind in ("prefix", "scale", "constant", "hold", "offset", "noise"):
         return [word(choices)]
     if kind in ("shift", "left", "low_pass"):
         return [choices.randint(*pick(choices, ((0, 4), 4), ((0, 63), 1)))]
     if kind in ("decimate", "repeat", "delay"):
         return [choices.randint(1, 4)]
+    if kind == "average":
+        return [choices.randint(1, 5)]
+    if kind == "gain":
+        return [word(choices), pick(choices, (choices.randint(1, 9), 9), (max(1, word(choices)), 1))]
     if kind == "clip":
         return sorted([word(choices), word(choices)])
     if kind == "weave":
@@ -117,7 +121,7 @@ class Growing:
 
 
 # Kinds that write for ever: a network with one seldom comes to its own end.
-ENDLESS = ("constant", "count_up")
+ENDLESS = ("constant", "count_up", "noise")
 
 
 def kinds_of(choices):

@@ -2,10 +2,11 @@
 lines of its report, as the independent interpreter writes them. And networks of many processes to draw."""
 import tomllib
 
-OUTPUTS = {"sink": 0, "copy": 2, "switch": 2}  # of the kinds that don't have one
+OUTPUTS = {"sink": 0, "copy": 2, "switch": 2, "copy_flags": 2}  # of the kinds that don't have one
 INPUTS = {
     "count": 0, "add": 2, "weave": 2, "merge": 2, "switch": 2, "select": 3,
     "sub": 2, "mul": 2, "less": 2, "equal": 2, "and": 2, "or": 2, "hold": 2,
+    "min": 2, "max": 2, "div": 2, "mod": 2, "gate": 2, "noise": 0,
 }
 ENDS = {"terminated": "terminated", "deadlock": "deadlock", "ceiling": "a channel at the ceiling would have to grow", "budget": "budget spent"}
 VERDICTS = {"terminated": "finished", "ceiling": "full", "budget": "cut"}
@@ -75,6 +76,9 @@ def picture(description, report=None, down=False):
     jammed = {it[1] for p in processes for it in (run.cycle(p, channels) if run else [])}
     out = HEAD % ("TB" if down else "LR")
     out += run.title(processes, channels) if run else ""
+    read = {it["to"]: name for name, it in channels.items() if it.get("in", 0) == 0}
+    first_written = {it["from"]: name for name, it in channels.items() if it.get("out", 0) == 0}
+    points = {name for name, it in processes.items() if it["kind"] in ("copy", "copy_flags") and name in (read.get(name), first_written.get(name))}
     for name, process in processes.items():
         lines, look = [name, " ".join([process["kind"], *map(str, process.get("args", []))])], ""
         if run and name in run.places:
@@ -83,23 +87,27 @@ def picture(description, report=None, down=False):
             look = ', fillcolor="#e3e3e3"' if act == "stopped" else look
             look = ', color="#c0392b", penwidth=2' if run.cycle(name, channels) else look
         label = "\\n".join(lines)
-        out += f'  "{name}" [label="{label}"{look}];\n'
+        out += f'  "{name}" [shape=point, width=0.08, label=""{look}];\n' if name in points else f'  "{name}" [label="{label}"{look}];\n'
     rows = {name: k // 8 for k, name in enumerate(processes)}
     stays = {name: rows[it["from"]] == rows[it["to"]] for name, it in channels.items()}
-    has_rows = len(processes) > 12 and 2 * sum(stays.values()) > len(channels)
+    is_chain = not any(it.get("out") or it.get("in") for it in channels.values())
+    has_rows = len(processes) > 12 and is_chain and 2 * sum(stays.values()) > len(channels)
     for name, channel in channels.items():
         first, writer, reader = channel.get("capacity", 1), channel["from"], channel["to"]
         left, last = run.channels[name] if run and run.channels else (len(channel.get("tokens", [])), first)
         color = "#c0392b" if name in jammed else "#1f6fb4" if last != first else None
         text_color = "#1f6fb4" if last != first else color
         look = f', color="{color}", fontcolor="{text_color}", penwidth={3 if name in jammed else 2}' if color else ""
-        if OUTPUTS.get(processes[writer]["kind"], 1) > 1:
+        if OUTPUTS.get(processes[writer]["kind"], 1) > 1 and writer not in points:
             look += f', taillabel="{channel.get("out", 0)}"'
         if INPUTS.get(processes[reader]["kind"], 1) > 1:
             look += f', headlabel="{channel.get("in", 0)}"'
+        if reader in points:
+            look += ", arrowhead=none, minlen=0" if writer in points else ", arrowhead=none"
         if has_rows and not stays[name]:
             look += ", constraint=false"
-        out += f'  "{writer}" -> "{reader}" [label="{label_of_channel(channel, left, last)}"{look}];\n'
+        label = "" if name in points & {writer, reader} else label_of_channel(channel, left, last)
+        out += f'  "{writer}" -> "{reader}" [label="{label}"{look}];\n'
     return out + "}\n"
 
 

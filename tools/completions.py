@@ -17,7 +17,7 @@ def kind_of(option):
 
 def options_of(program, *kinds):
     """The options of all subcommands that take a value of these kinds."""
-    found = [it["long"] for command in program.commands for it in command.options if kind_of(it) in kinds]
+    found = [name for command in program.commands for it in command.options if kind_of(it) in kinds for name in names_of(it)]
     return list(dict.fromkeys(found))
 
 
@@ -35,6 +35,11 @@ def filled(template, program, **parts):
     for name, text in {**parts, "FORMATS": " ".join(formats_of(program)), "NAME": program.name, "VERSION": program.version}.items():
         template = template.replace(f"@{name}@", text)
     return template
+
+
+def words_after(program, command):
+    """What may follow a subcommand: its options, or after `help` the subcommands."""
+    return " ".join(it.name for it in program.commands) if command.name == "help" else all_names(command)
 
 
 def helpers(program, texts):
@@ -124,7 +129,7 @@ BASH_REPLIES = {"file": '_@NAME@_files "$word"', "format": "mapfile -t COMPREPLY
 
 def bash(program):
     """The completion for bash, which can't show descriptions."""
-    cases = [f"    {it.name}) options='{all_names(it)}' takes={'file' if takes_file(it) else ''} ;;" for it in program.commands]
+    cases = [f"    {it.name}) options='{words_after(program, it)}' takes={'file' if takes_file(it) else ''} ;;" for it in program.commands]
     kinds = {kind: " | ".join(options_of(program, kind)) for kind in BASH_REPLIES}
     values = [BASH_VALUE.replace("@KINDS@", kinds[it]).replace("@REPLY@", BASH_REPLIES[it]) for it in kinds if kinds[it]]
     parts = {
@@ -193,12 +198,14 @@ def zsh_option(option):
     if not kind_of(option):
         before = "(- *)" if option["long"] in ("--help", "--version") else ""
         return [quoted(f"{before}{name}[{text}]") for name in names_of(option)]
-    repeats = "*" if "repeatable" in text else ""
-    return [quoted(f"{repeats}{option['long']}=[{text}]{value[kind_of(option)]}")]
+    repeats = "*" if option["value"].startswith("CHANNEL") else ""
+    return [quoted(f"{repeats}{name}{'=' if name.startswith('--') else '+'}[{text}]{value[kind_of(option)]}") for name in names_of(option)]
 
 
 def zsh_case(command):
     """The branch for a subcommand."""
+    if command.name == "help":
+        return "    help) _@NAME@_commands ;;"
     rows = [row for it in command.options for row in zsh_option(it)]
     rows += ["'1:FILE:_files -g \"*.toml(-.)\"'"] if takes_file(command) else []
     return f"    {command.name})\n        _arguments \\\n" + " \\\n".join(f"            {it}" for it in rows) + "\n        ;;"
@@ -268,6 +275,7 @@ def fish(program):
         when = f"'__fish_seen_subcommand_from {command.name}'"
         lines += ["", f"complete -c @NAME@ -n {first} -a {command.name} -d {fish_quoted(command.about)}"]
         lines += [fish_option(it, when) for it in command.options]
+        lines += [f"complete -c @NAME@ -n {when} -a '{words_after(program, command)}'"] if command.name == "help" else []
         lines += [f"complete -c @NAME@ -n {when} -a '(__@NAME@_description)'"] if takes_file(command) else []
     more = FISH_DESCRIPTION if any(map(takes_file, program.commands)) else ""
     return filled(FISH, program, HELPERS=helpers(program, FISH_HELPERS) + more, LINES="\n".join(lines))

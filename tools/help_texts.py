@@ -1,7 +1,8 @@
 """Reads the command line of a program from its help texts.
 
-`read_program(PATH, NAME)` runs the program with --help, and so each subcommand. The same definition makes the help texts and
-parses the arguments, so nothing else need be kept in step. A line in an unknown form raises `Unknown`: nothing is dropped.
+`read_program(PATH, NAME)` runs the program, and each subcommand, with -h, which lists the options, and with --help, which may say
+more below them. The same definition makes the help texts and parses the arguments, so nothing else need be kept in step. A line
+in an unknown form raises `Unknown`: nothing is dropped.
 """
 import re
 import subprocess
@@ -15,6 +16,10 @@ ROWS = {
     "Arguments:": re.compile(r"  (?P<name>\[[A-Z]+\]) {2,}(?P<help>\S.*)"),
     "Options:": re.compile(r" {2,6}((?P<short>-\w), )?(?P<long>--[\w-]+)( <(?P<value>[^<>]+)>)? {2,}(?P<help>\S.*)"),
 }
+
+
+# The first line of an option in a long help text, where its help is on the next line.
+LONG_ROW = re.compile(r" {2,6}(-\w, )?--[\w-]+( <[^<>]+>)?( {2,}.*)?")
 
 
 class Unknown(Exception):
@@ -73,15 +78,33 @@ def read_command(name, text):
     return command, parts["Commands:"]
 
 
+def blocks_below(text):
+    """The blocks of a help text, short or long, below its options."""
+    blocks = [block.splitlines() for block in text.strip("\n").split("\n\n")]
+    ends = [at for at, block in enumerate(blocks) if block[0] in ROWS or LONG_ROW.fullmatch(block[0])]
+    return blocks[max(ends, default=1) + 1 :]
+
+
+def read_subcommand(path, name):
+    """Reads the help texts of a subcommand. `kinds` also has what it lists."""
+    command, below = read_command(name, ask(path, name, "-h"))
+    if below:
+        raise Unknown(f"{name} has subcommands")
+    command.blocks = blocks_below(ask(path, name, "--help"))
+    if name == "kinds":
+        command.blocks.append(ask(path, name).splitlines())
+    return command
+
+
 def read_program(path, name):
     """Reads all help texts of a program."""
-    program, rows = read_command(name, ask(path, "--help"))
+    program, rows = read_command(name, ask(path, "-h"))
     program.version = ask(path, "--version").split()[-1]
     for row in rows:
-        command, below = read_command(row["name"], ask(path, row["name"], "--help"))
-        if below:
-            raise Unknown(f"{name} {command.name} has subcommands")
-        program.commands.append(command)
+        if row["name"] == "help":
+            program.commands.append(Command("help", row["help"], f"{name} help [COMMAND]"))
+        else:
+            program.commands.append(read_subcommand(path, row["name"]))
     return program
 
 

@@ -61,7 +61,8 @@ def options_of(command):
         lines += entry(form(row["name"]), row["help"])
     for row in command.options:
         tag = ", ".join(bold(it) for it in names_of(row))
-        lines += entry(f"{tag} {form(row['value'])}" if row["value"] else tag, row["help"])
+        repeats = "; repeatable" if (row["value"] or "").startswith("CHANNEL") else ""
+        lines += entry(f"{tag} {form(row['value'])}" if row["value"] else tag, row["help"] + repeats)
     return lines
 
 

@@ -83,6 +83,14 @@ def tone(count=8000, rate=8000, pitch=220):
     return [round(12000 * math.sin(turn * n) + 6000 * math.sin(3 * turn * n) + noise.uniform(-2000, 2000)) for n in range(count)]
 
 
+def echoed(samples, delay=1000):
+    """y(n) = x(n) + y(n - delay) / 4, rounded down, from y = 0."""
+    words = []
+    for n, x in enumerate(samples):
+        words.append(x + ((words[n - delay] if n >= delay else 0) >> 2))
+    return words
+
+
 def text_of(tokens):
     """One token a line."""
     return "".join(f"{str(it).lower() if isinstance(it, bool) else it}\n" for it in tokens)
@@ -138,6 +146,7 @@ def files():
         "outside.csv": text_of(["average", *map(hundredths, averages([outside for _, _, outside in rows]))]),
         "tone.wav": wav_of(heard),
         "soft.wav": wav_of(smooth(heard)),
+        "echo.wav": wav_of(echoed(heard)),
         "climate.csv": climate_of(rows),
         "stereo.wav": wav_of(heard, other),
         "soft_stereo.wav": wav_of(smooth(heard, 2), smooth(other, 4)),

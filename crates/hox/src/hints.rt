@@ -2,12 +2,13 @@
 ghost use Rattle.std.specs.Prelude.{◌≤◌, length};
 
 use crate::messages::place_of;
-use hox_args::KINDS_AND_FILES;
+use hox_args::KINDS as TABLE;
 use hox_network::{AllKinds, KINDS, sketch_by_ports};
 use kpn_message::{Location, Message};
 use kpn_model::Text;
+use kpn_model::limits::HIGH_CEILING;
 use kpn_net::faults::{is_unused_in, is_unused_out, process_named, signature_of};
-use kpn_net::{ChannelSketch, Check, Net, NetFault, ProcessSketch, Sketch, read_sketch};
+use kpn_net::{ChannelSketch, Check, Delay, Net, NetFault, ProcessSketch, Sketch, read_delayed};
 use std::alloc::Global;
 use std::str;
 
@@ -25,6 +26,18 @@ pub(crate) fn wants_version_2(alloc: Global, text: &[u8], fault: NetFault) -> bo
     }
 }
 
+/// Whether some channel of a text has a delay for which no channel has room.
+pub(crate) fn has_wrong_delay(alloc: Global, text: &[u8]) -> bool {
+    match read_delayed(alloc, text) {
+        Ok(own) => own.delays.as_slice().iter().any(is_wrong_delay),
+        Err(_) => false,
+    }
+}
+
+fn is_wrong_delay(delay: &Delay) -> bool {
+    delay.tokens < 0 || delay.tokens > i64::from(HIGH_CEILING)
+}
+
 /// Whether a text is refused for this fault, or memory for telling is.
 fn is_refused_for(alloc: Global, text: &[u8], fault: NetFault) -> bool {
     match fault_of(alloc, text) {
@@ -35,7 +48,7 @@ fn is_refused_for(alloc: Global, text: &[u8], fault: NetFault) -> bool {
 
 /// The fault of a text, if it has one.
 fn fault_of(alloc: Global, text: &[u8]) -> Option<NetFault> {
-    if let Err(fault) = read_sketch(alloc, text) {
+    if let Err(fault) = read_delayed(alloc, text) {
         return Some(fault);
     }
     let Some(sketch) = sketch_by_ports::<AllKinds>(alloc, text) else {
@@ -45,8 +58,20 @@ fn fault_of(alloc: Global, text: &[u8]) -> Option<NetFault> {
     checked.err()
 }
 
-/// Says what is wrong at a place of a sketch, and what would do.
-pub(crate) fn say_message<R: Eprint>(rt: &R, file: &str, sketch: &Sketch, message: &Message) {
+/// Whether a message is said. That two channels leave one output is no fault of a text: it stays in a sketch only
+/// beside a fault that keeps the copies out.
+pub(crate) fn is_said(message: &Message) -> bool {
+    message.fault != NetFault::Twice || !message.text.as_str().contains(": output ")
+}
+
+/// Says what is wrong at a place of a sketch, in which so many processes are copies, and what would do.
+pub(crate) fn say_message<R: Eprint>(
+    rt: &R,
+    file: &str,
+    sketch: &Sketch,
+    copies: usize,
+    message: &Message,
+) {
     let (place, colon) = place_of(file);
     let _ = eprint!(rt; "hox: {place}{colon}");
     match message.place {
@@ -58,9 +83,19 @@ pub(crate) fn say_message<R: Eprint>(rt: &R, file: &str, sketch: &Sketch, messag
             Some(channel) => say_of_channel(rt, sketch, channel, message),
             None => say_part(rt, "", message.text.as_str()),
         },
-        Location::Description => say_part(rt, "", message.text.as_str()),
+        Location::Description => say_of_description(rt, copies, message),
     }
     let _ = eprintln!(rt; "");
+}
+
+/// Says what is wrong with a description as a whole.
+fn say_of_description<R: Eprint>(rt: &R, copies: usize, message: &Message) {
+    say_part(rt, "", message.text.as_str());
+    if message.fault == NetFault::Counts && copies > 0 {
+        let _ = eprint!(rt;
+            "; each channel after the first of an output adds a process and a channel, here {copies}"
+        );
+    }
 }
 
 /// Says what is wrong with a process, and what would do.
@@ -81,12 +116,17 @@ fn say_of_process<R: Eprint>(rt: &R, sketch: &Sketch, process: &ProcessSketch, m
 fn say_unknown_kind<R: Eprint>(rt: &R, process: &ProcessSketch) {
     let (name, kind) = (process.name.as_str(), process.kind.as_str());
     let _ = eprint!(rt; "process {name:?}: unknown kind {kind:?}");
+    if let Some(near) = near_kind(kind) {
+        say_near(rt, near);
+    }
+}
+
+/// The kind that was likely meant by a name, if one was.
+pub(crate) fn near_kind(name: &str) -> Option<&'static str> {
     let mut kinds = KINDS
         .split_whitespace()
         .map(|kind| kind.trim_end_matches(','));
-    if let Some(near) = kinds.find(|other| is_near(kind.as_bytes(), other.as_bytes())) {
-        say_near(rt, near);
-    }
+    kinds.find(|other| is_near(name.as_bytes(), other.as_bytes()))
 }
 
 /// Says this of the arguments of a process, and which its kind takes.
@@ -116,10 +156,15 @@ struct Use {
     does: &'static str,
 }
 
+/// The line of the table of kinds on the kind of this name.
+pub(crate) fn line_of(kind: &str) -> Option<&'static str> {
+    let mut lines = TABLE.lines().map(str::trim);
+    lines.find(|line| use_in(line).is_some() && line.split_whitespace().next() == Some(kind))
+}
+
 /// How the kind of this name is used.
 fn use_of(kind: &str) -> Option<Use> {
-    let mut uses = KINDS_AND_FILES.lines().filter_map(use_in);
-    uses.find(|it| it.call.split_once(' ').map_or(it.call, |(name, _)| name) == kind)
+    use_in(line_of(kind)?)
 }
 
 /// What a line of the help says of a kind: its call, its ports and what it does, with two spaces or more between them.
@@ -162,15 +207,13 @@ fn say_of_channel<R: Eprint>(rt: &R, sketch: &Sketch, channel: &ChannelSketch, m
             return say_unknown_process(rt, processes, name, "to", to);
         }
     }
-    let text = message.text.as_str();
-    say_part(rt, "", text);
+    say_part(rt, "", message.text.as_str());
     if message.fault == NetFault::Twice {
-        let hint = if text.contains(": output ") {
-            "use a copy to write to two channels"
-        } else {
-            "use an add, merge, select or weave to read two channels"
-        };
-        say_part(rt, "; ", hint);
+        say_part(
+            rt,
+            "; ",
+            "use an add, merge, select or weave to read two channels",
+        );
     }
 }
 
@@ -238,7 +281,7 @@ fn say_part<R: Eprint>(rt: &R, before: &str, text: &str) {
 }
 
 /// Says which name was likely meant.
-fn say_near<R: Eprint>(rt: &R, near: &str) {
+pub(crate) fn say_near<R: Eprint>(rt: &R, near: &str) {
     let _ = eprint!(rt; "; did you mean {near:?}?");
 }
 

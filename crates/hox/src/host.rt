@@ -2,6 +2,7 @@
 use crate::progress::ProgressLine;
 use crate::reasons::say_unwritten;
 use crate::same::can_clash;
+use crate::screen::Screen;
 use crate::taps::{Origin, Spout, Tap, Target};
 use crate::whole::write_whole;
 use hox_execute::FileSystem;
@@ -14,13 +15,18 @@ use std::{fs, io};
 #[derive(Drop)]
 pub(crate) struct Host<'a, R> {
     rt: &'a R,
+    screen: &'a Screen<'a, R>,
     line: &'a ProgressLine<'a, R>,
 }
 
 impl<'a, R> Host<'a, R> {
-    /// The files of the system beside this line of progress.
-    pub(crate) fn new(rt: &'a R, line: &'a ProgressLine<'a, R>) -> Host<'a, R> {
-        Host { rt, line }
+    /// The files of the system beside this screen and line of progress.
+    pub(crate) fn new(
+        rt: &'a R,
+        screen: &'a Screen<'a, R>,
+        line: &'a ProgressLine<'a, R>,
+    ) -> Host<'a, R> {
+        Host { rt, screen, line }
     }
 }
 
@@ -68,7 +74,7 @@ impl<'a, R: Files + Input + Print + Eprint + AllocGlobal> FileSystem for Host<'a
             write_whole(self.rt, name, bytes)
         };
         if let Err(error) = written {
-            say_unwritten(self.rt, name, error);
+            say_unwritten(self.screen, name, error);
         }
         written
     }

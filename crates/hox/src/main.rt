@@ -5,11 +5,14 @@
 mod formats;
 mod hints;
 mod host;
+mod kinds;
 mod messages;
 mod progress;
 mod reasons;
 mod same;
+mod screen;
 mod sinks;
+mod stream_line;
 mod streaming;
 mod taps;
 mod told;
@@ -18,8 +21,11 @@ mod whole;
 
 use crate::formats::say_files;
 use crate::host::Host;
+use crate::kinds::list_kinds;
 use crate::messages::{say_no_memory, say_stop};
 use crate::progress::ProgressLine;
+use crate::screen::Screen;
+use crate::stream_line::StreamLine;
 use crate::streaming::stream_asked;
 use crate::unused::say_unused_by_run;
 use hox_execute::{Outcome, Stop, execute};
@@ -43,51 +49,60 @@ fn status_of<R: Env + Files + Input + Print + Eprint + AllocGlobal + Wait + Cloc
     rt: &R,
     is_terminal: bool,
 ) -> u8 {
+    let screen = Screen::new(rt, is_terminal);
     match arguments_of(rt) {
-        Ok(arguments) => status_by(rt, &arguments, is_terminal),
-        Err(_) => say_no_memory(rt),
+        Ok(arguments) => status_by(rt, &screen, &arguments, is_terminal),
+        Err(_) => say_no_memory(&screen),
     }
 }
 
 /// Does what the arguments ask for, and returns the exit status.
 fn status_by<R: Files + Input + Print + Eprint + AllocGlobal + Wait + Clock + Threads + Sync>(
     rt: &R,
+    screen: &Screen<'_, R>,
     arguments: &Vec<String>,
     is_terminal: bool,
 ) -> u8 {
     match texts_of(rt, arguments) {
-        Ok(texts) => status_by_texts(rt, texts.as_slice(), is_terminal),
-        Err(_) => say_no_memory(rt),
+        Ok(texts) => status_by_texts(rt, screen, texts.as_slice(), is_terminal),
+        Err(_) => say_no_memory(screen),
     }
 }
 
 fn status_by_texts<R: Files + Input + Print + Eprint + AllocGlobal + Wait + Clock + Threads + Sync>(
     rt: &R,
+    screen: &Screen<'_, R>,
     texts: &[&str],
     is_terminal: bool,
 ) -> u8 {
     let line = ProgressLine::new(rt, is_terminal);
-    let mut host = Host::new(rt, &line);
+    let mut host = Host::new(rt, screen, &line);
     let outcome = execute::<AllKinds, _, _, _>(rt, rt.alloc(), &mut host, texts, &line);
     line.clear();
-    status_after(rt, &host, &outcome)
+    status_after(rt, screen, &host, &outcome)
 }
 
-/// Runs the stream that is still to be run, or says why nothing was done, and returns the exit status.
-fn status_after<R: Files + Input + Print + Eprint + AllocGlobal>(
+/// Runs the stream that is still to be run, lists the kinds that are still to be listed, or says why nothing was
+/// done, and returns the exit status.
+fn status_after<R: Files + Input + Print + Eprint + AllocGlobal + Clock>(
     rt: &R,
+    screen: &Screen<'_, R>,
     host: &Host<'_, R>,
     outcome: &Result<Outcome<'_>, Stop<'_>>,
 ) -> u8 {
     match outcome {
         Ok(Outcome::Exits(status)) => status.code(),
         Ok(Outcome::Ran(ran)) => {
-            say_files(rt, ran.outputs.as_slice(), ran.files.as_slice());
-            say_unused_by_run(rt, &ran);
+            say_files(screen, ran.outputs.as_slice(), ran.files.as_slice());
+            say_unused_by_run(screen, &ran);
             ran.status.code()
         }
-        Ok(Outcome::Streams(stream)) => stream_asked(rt, host, stream),
-        Err(stop) => say_stop(rt, stop),
+        Ok(Outcome::Streams(stream)) => {
+            let line = StreamLine::new(rt, stream, screen.is_terminal());
+            stream_asked(screen, host, stream, &line)
+        }
+        Ok(Outcome::Lists(kinds)) => list_kinds(screen, kinds),
+        Err(stop) => say_stop(screen, stop),
     }
 }
 

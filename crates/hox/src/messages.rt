@@ -1,15 +1,16 @@
 //! What is said on standard error.
 use crate::formats::{lines_before, record_name, say_format};
-use crate::hints::{say_message, say_no_channel, wants_version_2};
+use crate::hints::{has_wrong_delay, is_said, say_message, say_no_channel, wants_version_2};
 use crate::reasons::{say_clash, say_undescribed, say_unread};
 use hox_args::WordsFault;
 use hox_execute::{Asked, Refusal, Stop};
 use hox_network::{AllKinds, Fault, FileFault, KINDS, PresetFault, Request, sketch_by_ports};
 use kpn_front::{Refused, Status};
-use kpn_message::{message_of, messages_of_sketch};
+use kpn_message::{message_of_delayed, messages_of_sketch};
 use kpn_model::limits::{CEILING, GREATEST_HIGH_BUDGET, HIGH_CEILING};
-use kpn_net::NetFault;
+use kpn_net::{NetFault, Sketch, read_delayed};
 use kpn_tokens::RecordFault;
+use std::alloc::Global;
 use std::str;
 
 /// Says why what the arguments ask for is not done, and returns the exit status.
@@ -112,11 +113,17 @@ fn say_wrong<R: Eprint + AllocGlobal>(rt: &R, file: &str, text: &[u8], fault: Ne
     if messages.told.is_empty() {
         return say_fault_of(rt, file, text, fault);
     }
+    let copies = copies_in(rt.alloc(), text, &sketch);
     for message in &messages.told {
-        say_message(rt, file, &sketch, message);
+        if is_said(message) {
+            say_message(rt, file, &sketch, copies, message);
+        }
     }
     if messages.more > 0 {
         say_more(rt, file, messages.more);
+    }
+    if has_wrong_delay(rt.alloc(), text) {
+        say_of(rt, file, "a delay is 0 to 1000000");
     }
     if messages
         .told
@@ -127,6 +134,18 @@ fn say_wrong<R: Eprint + AllocGlobal>(rt: &R, file: &str, text: &[u8], fault: Ne
     }
 }
 
+/// How many processes of a text's sketch are copies, which the text doesn't name; 0 if out of memory.
+fn copies_in(alloc: Global, text: &[u8], sketch: &Sketch) -> usize {
+    match read_delayed(alloc, text) {
+        Ok(own) => sketch
+            .processes
+            .as_slice()
+            .len()
+            .saturating_sub(own.sketch.processes.as_slice().len()),
+        Err(_) => 0,
+    }
+}
+
 /// Says how many faults more there are.
 fn say_more<R: Eprint>(rt: &R, file: &str, more: u64) {
     let (place, colon) = place_of(file);
@@ -134,7 +153,7 @@ fn say_more<R: Eprint>(rt: &R, file: &str, more: u64) {
 }
 
 /// Says which kinds there are.
-fn say_kinds<R: Eprint>(rt: &R) {
+pub(crate) fn say_kinds<R: Eprint>(rt: &R) {
     let _ = eprintln!(rt; "hox: the kinds are {KINDS}");
 }
 
@@ -142,9 +161,7 @@ fn say_kinds<R: Eprint>(rt: &R) {
 /// refused, the fault alone is said: the text by itself does not tell what `hox` takes its arguments for.
 fn say_fault_of<R: Eprint + AllocGlobal>(rt: &R, file: &str, text: &[u8], fault: NetFault) {
     let message = match fault {
-        NetFault::NotToml | NetFault::Keys => {
-            message_of::<AllKinds>(rt.alloc(), text, fault, KINDS)
-        }
+        NetFault::NotToml | NetFault::Keys => message_of_delayed(rt.alloc(), text),
         _ => None,
     };
     match message {

@@ -8,7 +8,7 @@ use std::time::Instant;
 const PERIOD: u64 = 500;
 
 /// What clears the line: a carriage return, as many spaces as it has places, and another.
-const CLEAR: &str =
+pub(crate) const CLEAR: &str =
     "\r                                                                              \r";
 
 /// The line, which is written over the one before, and cleared at the end.

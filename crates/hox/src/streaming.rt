@@ -4,6 +4,8 @@ use crate::hints::say_no_channel;
 use crate::host::Host;
 use crate::messages::{say_no_memory, say_refused, say_stop};
 use crate::reasons::{say_undescribed, say_unreadable, say_unwritten};
+use crate::screen::Screen;
+use crate::stream_line::StreamLine;
 use crate::told::say_told;
 use hox_args::StreamChoice;
 use hox_execute::{Ends, Pair, StreamStop, stream};
@@ -13,19 +15,22 @@ use kpn_front::{Refused, Status};
 use kpn_model::Text;
 use kpn_net::NetFault;
 use std::io;
-use std::rt::Files;
+use std::rt::{Clock, Files};
 
 /// Runs the network that a file describes, or standard input: from each file of the inputs tokens come into a
 /// channel as they are read, and what goes through each channel of the outputs is written to a file as it comes.
 /// Returns the exit status.
-pub(crate) fn stream_asked<R: Files + Input + Print + Eprint + AllocGlobal>(
-    rt: &R,
+pub(crate) fn stream_asked<R: Files + Input + Print + Eprint + AllocGlobal + Clock>(
+    screen: &Screen<'_, R>,
     host: &Host<'_, R>,
     choice: &StreamChoice<'_>,
+    line: &StreamLine<'_, R>,
 ) -> u8 {
-    match stream::<AllKinds, _>(rt.alloc(), host, choice) {
-        Ok(streamed) => say_told(rt, &streamed, choice.quiet),
-        Err(stop) => say_stream_stop(rt, stop),
+    let streamed = stream::<AllKinds, _, _>(screen.alloc(), host, choice, line);
+    line.end();
+    match streamed {
+        Ok(streamed) => say_told(screen, &streamed, choice.quiet),
+        Err(stop) => say_stream_stop(screen, stop),
     }
 }
 
@@ -123,7 +128,7 @@ fn say_name_fault<R: Eprint>(
         NameFault::Busy(k, process) => {
             let (name, process) = (name_at(pairs, *k), process.as_str());
             if is_fed {
-                say_writer(rt, name, process)
+                say_writer(rt, channels, name, process)
             } else {
                 say_reader(rt, name, process)
             }
@@ -132,18 +137,24 @@ fn say_name_fault<R: Eprint>(
     }
 }
 
-/// Says that a process writes itself to the channel that should be fed, and returns the exit status.
-fn say_writer<R: Eprint>(rt: &R, name: &str, process: &str) -> u8 {
-    let _ = eprintln!(rt;
-        "hox: --in {name}: process {process} writes to that channel itself; make its kind input or input_flags"
-    );
+/// Says that a process writes itself to the channel that should be fed, and returns the exit status. A copy has the
+/// name of the channel to it.
+fn say_writer<R: Eprint>(rt: &R, channels: &[Text], name: &str, process: &str) -> u8 {
+    let is_copy = process.starts_with("copy_")
+        && channels.iter().any(|channel| channel.as_str() == process);
+    let _ = eprint!(rt; "hox: --in {name}: process {process} writes to that channel itself; ");
+    let _ = if is_copy {
+        eprintln!(rt; "feed channel {process}, for all channels of its output")
+    } else {
+        eprintln!(rt; "make its kind input or input_flags")
+    };
     Status::WrongArguments.code()
 }
 
 /// Says that a process reads the channel that should be drained, and returns the exit status.
 fn say_reader<R: Eprint>(rt: &R, name: &str, process: &str) -> u8 {
     let _ = eprintln!(rt;
-        "hox: --out {name}: process {process} reads that channel; add a copy that feeds a drain, drain_flags or sink, and name its channel"
+        "hox: --out {name}: process {process} reads that channel; let another channel lead from its output to a drain, drain_flags or sink, and name that"
     );
     Status::WrongArguments.code()
 }

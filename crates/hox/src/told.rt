@@ -12,10 +12,9 @@ use hox_stream::{Finish, Inlet, LONGEST_RECORD, Refusal, Served};
 use kpn_body::Body;
 use kpn_compute::Computes;
 use kpn_flow::Flow;
+use kpn_flow_verdict::{Judged, judge};
 use kpn_front::{Sink, Source, Status};
 use kpn_model::{End, Verdict};
-use kpn_report::places_of;
-use kpn_verdict::{verdict_of, verdict_text};
 use std::alloc::{AllocError, Global};
 use std::io;
 
@@ -50,9 +49,9 @@ fn say_verdict<R: Eprint + AllocGlobal, F: Computes, I: Source, O: Sink>(
     is_quiet: bool,
 ) -> u8 {
     match judged(rt.alloc(), &served.flow, served.finish) {
-        Ok((verdict, line)) => {
+        Ok(Judged { verdict, text }) => {
             if !is_quiet {
-                let _ = eprint!(rt; "{line}");
+                let _ = eprint!(rt; "{text}");
             }
             served.finish.status(verdict).code()
         }
@@ -106,23 +105,20 @@ fn say_count<R: Eprint>(rt: &R, way: &str, channel: &str, tokens: u64) {
     let _ = eprintln!(rt; "{way} {channel} tokens {tokens}");
 }
 
-/// The verdict on how a stream left its network, and its line; of a stream that something else ended the line
+/// The verdict on how a stream left its network, and its text; of a stream that something else ended the text
 /// is empty.
-fn judged<B: Body>(
-    alloc: Global,
-    flow: &Flow<B>,
-    finish: Finish,
-) -> Result<(Verdict, String), AllocError> {
+fn judged<B: Body>(alloc: Global, flow: &Flow<B>, finish: Finish) -> Result<Judged, AllocError> {
     let end = match finish {
         Finish::Over(end) => end,
         Finish::Idle => End::Deadlock,
-        _ => return Ok((Verdict::Cut, String::new(alloc))),
+        _ => {
+            return Ok(Judged {
+                verdict: Verdict::Cut,
+                text: String::new(alloc),
+            });
+        }
     };
-    let net = flow.net();
-    let places = places_of(alloc, net, flow.standings())?;
-    let verdict = verdict_of(net, places.as_slice(), end);
-    let line = verdict_text(alloc, net, places.as_slice(), verdict)?;
-    Ok((verdict, line))
+    judge(alloc, flow, end)
 }
 
 /// Whether a stream ended since the reader of a pipe to which it is written is gone.

@@ -1,5 +1,5 @@
--- If the command line accepts the arguments, they name one of its four subcommands.
-use Rattle.std.proofs.Common.{◌≡◌, inl, inr, Bool, true, false, cond, List, [], ◌∷◌, Option, Some, None, IfSome, IsSomeAnd, is_some, option_map, codes, refl, subst, Result, Ok, Err, IfOk, IfErr}
+-- If the command line accepts the arguments, they name one of its five subcommands.
+use Rattle.std.proofs.Common.{◌≡◌, inl, inr, Bool, true, false, cond, List, [], ◌∷◌, Option, Some, None, IfSome, IsSomeAnd, is_some, option_map, codes, refl, subst, sym, ◌||◌, Result, Ok, Err, IfOk, IfErr}
 use Rattle.std.specs.Str.{bytes_eq}
 use Rattle.clap.specs.Words.{App, HasMatchesOf, Row, Text, built, is_simple_and_free, subcommand_of, subcommand_rows_of}
 use Rattle.clap.specs.declared.parser.matches.ArgMatches.{ArgMatches}
@@ -12,15 +12,12 @@ use Rattle.hox_args.specs.declared.arguments.WordsFault.{WordsFault}
 use Rattle.hox_args.specs.declared.arguments.WordsFault.TheVariants.{Parser, Workers, Budget, Memory}
 use Rattle.hox_args.specs.HoxChoices.{AreHoxTaken, IsFaultIn, IsHoxChoice, IsHoxChoiceOf, IsHoxFault, IsRunFault, IsSubcommand}
 use Rattle.hox_args.specs.HoxCommand.{hox}
+use Rattle.hox_args.proofs.HelpIsAnswered.{IsNoHelp, first_passes, last_passes, stops_elsewhere}
+use Rattle.std.proofs.lemmas.Slice.Eq.{bytes_eq-Decides}
 
 -- the command line is one of those whose parse clap's clauses determine
 pub is_simple : is_simple_and_free hox ≡ true
 is_simple = refl
-
--- if no step fails, the last one does not
-last_passes : (first next : Kinds) → or_else first next ≡ [] → next ≡ []
-last_passes [] next h = h
-last_passes (k ∷ ks) next h = cc
 
 -- a parse of the top command that succeeds has a subcommand
 has_one : (rows : List Row) (has : Bool) → check_fault (built hox).top rows has ≡ [] → has ≡ true
@@ -31,20 +28,29 @@ has_one rows false h = cc
 abbrev pub IsCommand : Text × List Row → Type 0
 IsCommand p = IsSubcommand p.0
 
--- the shape found by name among the four is one of the four
-found_is : (words : List Text) (check run draw stream : Shape) (first second third fourth : Bool)
-    → check.name ≡ codes "check" → run.name ≡ codes "run" → draw.name ≡ codes "draw" → stream.name ≡ codes "stream"
-    → IfSome (option_map (λ s. rows_at s words) (cond first (Some check) (cond second (Some run) (cond third (Some draw) (cond fourth (Some stream) None))))) IsCommand
-found_is words check run draw stream true second third fourth c r d s = inl c
-found_is words check run draw stream false true third fourth c r d s = inr (inl r)
-found_is words check run draw stream false false true fourth c r d s = inr (inr (inl d))
-found_is words check run draw stream false false false true c r d s = inr (inr (inr s))
-found_is words check run draw stream false false false false c r d s = tt
+-- the shape found by name, if it is not `help`, is one of the five
+found_is : (words : List Text) (check run draw stream kinds help : Shape) (first second third fourth fifth sixth : Bool)
+    → check.name ≡ codes "check" → run.name ≡ codes "run" → draw.name ≡ codes "draw" → stream.name ≡ codes "stream" → kinds.name ≡ codes "kinds" → sixth ≡ false
+    → IfSome (option_map (λ s. rows_at s words) (cond first (Some check) (cond second (Some run) (cond third (Some draw) (cond fourth (Some stream) (cond fifth (Some kinds) (cond sixth (Some help) None))))))) IsCommand
+found_is words check run draw stream kinds help true second third fourth fifth sixth c r d s k h = inl c
+found_is words check run draw stream kinds help false true third fourth fifth sixth c r d s k h = inr (inl r)
+found_is words check run draw stream kinds help false false true fourth fifth sixth c r d s k h = inr (inr (inl d))
+found_is words check run draw stream kinds help false false false true fifth sixth c r d s k h = inr (inr (inr (inl s)))
+found_is words check run draw stream kinds help false false false false true sixth c r d s k h = inr (inr (inr (inr k)))
+found_is words check run draw stream kinds help false false false false false true c r d s k h = cc
+found_is words check run draw stream kinds help false false false false false false c r d s k h = tt
 
--- a subcommand that was entered is one of the four
-entered_is : (stop : Option (Text × List Text)) → IfSome (entered (built hox) stop) IsCommand
-entered_is None = tt
-entered_is (Some p) = found_is p.1 _ _ _ _ _ _ _ _ refl refl refl refl
+-- `help` answers to no other name
+is_not_help : (name : Text) (same : Bool) → bytes_eq (codes "help") name ≡ same → bytes_eq name (codes "help") ≡ false → (same || false) ≡ false
+is_not_help name false e other = refl
+is_not_help name true e other =
+    let is = (bytes_eq-Decides (codes "help") name).0 e in
+    let bad : bytes_eq (codes "help") (codes "help") ≡ false = subst (λ t. bytes_eq t (codes "help") ≡ false) (sym is) other in cc
+
+-- a subcommand that was entered, if it is not `help`, is one of the five
+entered_is : (stop : Option (Text × List Text)) → IsNoHelp stop → IfSome (entered (built hox) stop) IsCommand
+entered_is None other = tt
+entered_is (Some p) other = found_is p.1 _ _ _ _ _ _ _ _ _ _ _ _ refl refl refl refl refl (is_not_help p.0 _ refl other)
 
 -- a level whose parse succeeds has a subcommand
 level_has_one : (names : Names) (h : Held) (words : List Text) (has : Bool) (below : Kinds) → level_fault (built hox).top names h words has below ≡ [] → has ≡ true
@@ -70,11 +76,14 @@ some_is : (p : Option (Text × List Row)) → is_some p ≡ true → IfSome p Is
 some_is None some is = cc
 some_is (Some p) some is = is
 
--- arguments that are accepted name one of the four subcommands
+-- arguments that are accepted name one of the five subcommands
 pub names_command : (words : List Text) → AreHoxTaken words → IsSomeAnd (subcommand_of hox words) IsCommand
 names_command words h =
-    let stop = (walk (built hox).top.rules (names_of (built hox)) nothing_held (argument_words hox words)).stopped in
-    some_is (subcommand_of hox words) (names_one words h) (entered_is stop)
+    let top = (built hox).top in
+    let names = names_of (built hox) in
+    let stop = (walk top.rules names nothing_held (argument_words hox words)).stopped in
+    let passes = first_passes (walk_fault top names (walk_from nothing_held) (argument_words hox words)) _ h in
+    some_is (subcommand_of hox words) (names_one words h) (entered_is stop (stops_elsewhere top names nothing_held (argument_words hox words) refl passes))
 
 -- the value has the form
 at_some : (r : Option (Text × List Row)) (p : Text × List Row) → Some p ≡ r → IsSomeAnd r IsCommand → IsCommand p
@@ -90,21 +99,24 @@ at_none (Some q) e is = cc
 is_not : (text name : Text) → bytes_eq name name ≡ true → bytes_eq text name ≡ false → text ≡ name → ⊥
 is_not text name same other e = let bad : bytes_eq name name ≡ false = subst (λ t. bytes_eq t name ≡ false) e other in cc
 
--- a subcommand has one of the four names
+-- a subcommand has one of the five names
 pub other_is : (name : Text) → bytes_eq name (codes "check") ≡ false → bytes_eq name (codes "run") ≡ false → bytes_eq name (codes "draw") ≡ false → bytes_eq name (codes "stream") ≡ false
-    → IsSubcommand name → ⊥
-other_is name check run draw stream is = elim is [
+    → bytes_eq name (codes "kinds") ≡ false → IsSubcommand name → ⊥
+other_is name check run draw stream kinds is = elim is [
   | inl e ↦ is_not name (codes "check") refl check e
   | inr rest ↦ elim rest [
     | inl e ↦ is_not name (codes "run") refl run e
-    | inr last ↦ elim last [
+    | inr others ↦ elim others [
       | inl e ↦ is_not name (codes "draw") refl draw e
-      | inr e ↦ is_not name (codes "stream") refl stream e
+      | inr last ↦ elim last [
+        | inl e ↦ is_not name (codes "stream") refl stream e
+        | inr e ↦ is_not name (codes "kinds") refl kinds e
+      ]
     ]
   ]
 ]
 
--- arguments that are accepted name one of the four subcommands
+-- arguments that are accepted name one of the five subcommands
 pub names_one_of : (words : List Text) (p : Text × List Row) → AreHoxTaken words → Some p ≡ subcommand_of hox words → IsSubcommand p.0
 names_one_of words p taken e = at_some (subcommand_of hox words) p e (names_command words taken)
 

@@ -1,1 +1,3 @@
+pub mod HelpIsAnswered
 pub mod HoxSubcommands
+pub mod Settings

@@ -10,8 +10,9 @@ use Rattle.hox_args.specs.declared.arguments.RunChoice.{RunChoice}
 use Rattle.hox_args.specs.declared.arguments.CheckChoice.{CheckChoice}
 use Rattle.hox_args.specs.declared.arguments.DrawChoice.{DrawChoice}
 use Rattle.hox_args.specs.declared.arguments.StreamChoice.{StreamChoice}
+use Rattle.hox_args.specs.declared.arguments.KindsChoice.{KindsChoice}
 use Rattle.hox_args.specs.declared.arguments.Choice.{Choice}
-use Rattle.hox_args.specs.declared.arguments.Choice.TheVariants.{Check, Run, Draw, Stream}
+use Rattle.hox_args.specs.declared.arguments.Choice.TheVariants.{Check, Run, Draw, Stream, Kinds}
 use Rattle.hox_args.specs.declared.arguments.WordsFault.{WordsFault}
 use Rattle.hox_args.specs.declared.arguments.WordsFault.TheVariants.{Parser, Workers, Budget, Memory}
 use Rattle.hox_args.specs.HoxCommand.{hox}
@@ -44,6 +45,7 @@ pub record IsCheckOf (rows : List Row) (check : CheckChoice) : Type 0 where
   pub file : option_map (λ s. s.now) check.file ≡ first_of (codes "file") rows
   pub tokens : map (λ s. s.now) check.tokens.items ≡ texts_of (codes "tokens") rows
   pub formats : map (λ s. s.now) check.formats.items ≡ texts_of (codes "format") rows
+  pub expanded : check.expanded ≡ is_given (codes "expanded") rows
 
 pub record IsRunOf (rows : List Row) (run : RunChoice) : Type 0 where
   pub file : option_map (λ s. s.now) run.file ≡ first_of (codes "file") rows
@@ -55,6 +57,7 @@ pub record IsRunOf (rows : List Row) (run : RunChoice) : Type 0 where
   pub budget : BudgetFrom (first_of (codes "budget") rows) run.budget
   pub workers : WorkersFrom (first_of (codes "workers") rows) run.workers
   pub progress : run.progress ≡ is_given (codes "progress") rows
+  pub json : run.json ≡ is_given (codes "json") rows
   pub quiet : run.quiet ≡ is_given (codes "quiet") rows
 
 -- the number of workers is parsed in any case, and used if there is a run
@@ -73,7 +76,12 @@ pub record IsStreamOf (rows : List Row) (stream : StreamChoice) : Type 0 where
   pub outputs : map (λ s. s.now) stream.outputs.items ≡ texts_of (codes "out") rows
   pub formats : map (λ s. s.now) stream.formats.items ≡ texts_of (codes "format") rows
   pub unsigned : map (λ s. s.now) stream.unsigned.items ≡ texts_of (codes "unsigned") rows
+  pub progress : stream.progress ≡ is_given (codes "progress") rows
+  pub watch : stream.watch ≡ is_given (codes "watch") rows
   pub quiet : stream.quiet ≡ is_given (codes "quiet") rows
+
+pub record IsKindsOf (rows : List Row) (kinds : KindsChoice) : Type 0 where
+  pub name : option_map (λ s. s.now) kinds.name ≡ first_of (codes "name") rows
 
 -- the choice is that of a subcommand and its entries
 abbrev pub IsHoxChoiceOf : Option (Text × List Row) → Choice → Type 0
@@ -82,6 +90,7 @@ IsHoxChoiceOf (Some p) (Check check) = (p.0 ≡ codes "check") × IsCheckOf p.1 
 IsHoxChoiceOf (Some p) (Run run) = (p.0 ≡ codes "run") × IsRunOf p.1 run
 IsHoxChoiceOf (Some p) (Draw draw) = (p.0 ≡ codes "draw") × IsDrawOf p.1 draw
 IsHoxChoiceOf (Some p) (Stream stream) = (p.0 ≡ codes "stream") × IsStreamOf p.1 stream
+IsHoxChoiceOf (Some p) (Kinds kinds) = (p.0 ≡ codes "kinds") × IsKindsOf p.1 kinds
 
 -- a run has 1 to 16 workers
 abbrev pub HasFewHoxWorkers : Choice → Type 0
@@ -89,9 +98,10 @@ HasFewHoxWorkers (Check check) = Unit {0}
 HasFewHoxWorkers (Run run) = (1 ≤ run.workers) × (run.workers ≤ 16)
 HasFewHoxWorkers (Draw draw) = IfSome draw.workers (λ n. (1 ≤ n) × (n ≤ 16))
 HasFewHoxWorkers (Stream stream) = Unit {0}
+HasFewHoxWorkers (Kinds kinds) = Unit {0}
 
 abbrev pub IsSubcommand : Text → Type 0
-IsSubcommand name = (name ≡ codes "check") ⊎ ((name ≡ codes "run") ⊎ ((name ≡ codes "draw") ⊎ (name ≡ codes "stream")))
+IsSubcommand name = (name ≡ codes "check") ⊎ ((name ≡ codes "run") ⊎ ((name ≡ codes "draw") ⊎ ((name ≡ codes "stream") ⊎ (name ≡ codes "kinds"))))
 
 -- the command line accepts the arguments
 abbrev pub AreHoxTaken : List Text → Type 0

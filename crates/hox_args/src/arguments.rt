@@ -24,7 +24,7 @@ pub const MAX_WORKERS: usize = 16;
 /// the output files of channels, as `CHANNEL=FILE`; the formats of files, as `CHANNEL=FORMAT`; the channels
 /// whose streams the report shows; the channels whose words are unsigned, or `all`; the budget that overrides
 /// the description's; the number of workers, 1 to [`MAX_WORKERS`]; whether to show progress even if standard
-/// error is no terminal; and whether to write no report.
+/// error is no terminal; whether the report is written as JSON; and whether to write no report.
 #[derive(Debug, Drop)]
 pub struct RunChoice<'a> {
     pub file: Option<&'a str>,
@@ -36,6 +36,7 @@ pub struct RunChoice<'a> {
     pub budget: Option<u64>,
     pub workers: usize,
     pub progress: bool,
+    pub json: bool,
     pub quiet: bool,
 }
 
@@ -52,17 +53,20 @@ pub struct DrawChoice<'a> {
 }
 
 /// The arguments of `hox check`: the description's file (standard input if absent or `-`); the token files of
-/// channels, as `CHANNEL=FILE`, and their formats, as `CHANNEL=FORMAT`.
+/// channels, as `CHANNEL=FILE`, and their formats, as `CHANNEL=FORMAT`; and whether to write the network as a
+/// description.
 #[derive(Debug, Drop)]
 pub struct CheckChoice<'a> {
     pub file: Option<&'a str>,
     pub tokens: Vec<&'a str>,
     pub formats: Vec<&'a str>,
+    pub expanded: bool,
 }
 
 /// The arguments of `hox stream`: the description's file (standard input if absent or `-`); the input files
 /// and output files of channels, as `CHANNEL=FILE`; the formats of files, as `CHANNEL=FORMAT`; the channels
-/// whose words are unsigned, or `all`; and whether to write no report.
+/// whose words are unsigned, or `all`; whether to show progress; whether to show a table of the channels; and
+/// whether to write no report.
 #[derive(Debug, Drop)]
 pub struct StreamChoice<'a> {
     pub file: Option<&'a str>,
@@ -70,7 +74,15 @@ pub struct StreamChoice<'a> {
     pub outputs: Vec<&'a str>,
     pub formats: Vec<&'a str>,
     pub unsigned: Vec<&'a str>,
+    pub progress: bool,
+    pub watch: bool,
     pub quiet: bool,
+}
+
+/// The argument of `hox kinds`: the kind to tell of, or all.
+#[derive(Debug, Drop)]
+pub struct KindsChoice<'a> {
+    pub name: Option<&'a str>,
 }
 
 /// A subcommand and its arguments.
@@ -84,6 +96,8 @@ pub enum Choice<'a> {
     Draw(DrawChoice<'a>),
     /// `hox stream`: run the network on tokens as they come.
     Stream(StreamChoice<'a>),
+    /// `hox kinds`: list the kinds of processes.
+    Kinds(KindsChoice<'a>),
 }
 
 /// Why the arguments give no choice. `Display` gives the user's text, which ends a line.
@@ -184,6 +198,7 @@ fn choice_of<'a>(
         "run" => run_choice(alloc, entries),
         "draw" => draw_choice(alloc, entries),
         "stream" => stream_choice(alloc, entries),
+        "kinds" => Ok(kinds_choice(entries)),
         _ => unreachable!(),
     }
 }
@@ -196,10 +211,12 @@ fn check_choice<'a>(alloc: Global, entries: &ArgMatches<'a>) -> Result<Choice<'a
     let tokens = texts_in(alloc, entries, "tokens")?;
     let formats = texts_in(alloc, entries, "format")?;
     let file = text_in(entries, "file");
+    let expanded = has_flag(entries, "expanded");
     Ok(Choice::Check(CheckChoice {
         file,
         tokens,
         formats,
+        expanded,
     }))
 }
 
@@ -217,6 +234,7 @@ fn run_choice<'a>(alloc: Global, entries: &ArgMatches<'a>) -> Result<Choice<'a>,
     let unsigned = texts_in(alloc, entries, "unsigned")?;
     let file = text_in(entries, "file");
     let progress = has_flag(entries, "progress");
+    let json = has_flag(entries, "json");
     let quiet = has_flag(entries, "quiet");
     Ok(Choice::Run(RunChoice {
         file,
@@ -228,6 +246,7 @@ fn run_choice<'a>(alloc: Global, entries: &ArgMatches<'a>) -> Result<Choice<'a>,
         budget,
         workers,
         progress,
+        json,
         quiet,
     }))
 }
@@ -267,8 +286,19 @@ fn stream_choice<'a>(alloc: Global, entries: &ArgMatches<'a>) -> Result<Choice<'
         outputs: written,
         formats,
         unsigned: texts_in(alloc, entries, "unsigned")?,
+        progress: has_flag(entries, "progress"),
+        watch: has_flag(entries, "watch"),
         quiet: has_flag(entries, "quiet"),
     }))
+}
+
+fn kinds_choice<'a>(entries: &ArgMatches<'a>) -> Choice<'a>
+    ensures is { IsHoxChoiceOf (Some (codes "kinds", rows_of (found_of entries.now))) result }
+    ensures few { HasFewHoxWorkers result }
+{
+    Choice::Kinds(KindsChoice {
+        name: text_in(entries, "name"),
+    })
 }
 
 fn direction_of(is_down: bool) -> Direction

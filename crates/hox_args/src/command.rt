@@ -2,15 +2,22 @@
 ghost use Rattle.std.specs.Prelude.{◌≡◌, codes, false};
 ghost use Rattle.clap.specs.Words.{app_of, new_app, rule_of};
 ghost use Rattle.kpn_args.specs.Made.{IsLocal, Makes, MakesLocal};
-ghost use Rattle.hox_args.specs.HoxCommand.{bare_hox, flag_rule, hox, hox_check_command, hox_draw_command, hox_draw_flags, hox_file_rule, hox_run_bounds, hox_run_command, hox_run_streams, hox_stream_command, hox_two, list_rule, option_rule};
+ghost use Rattle.hox_args.specs.HoxCommand.{bare_hox, budget_rule, flag_rule, hox, hox_check_command, hox_draw_command, hox_draw_flags, hox_file_rule, hox_four, hox_kinds_command, hox_run_bounds, hox_run_command, hox_run_streams, hox_stream_command, hox_two, list_rule, option_rule, out_rule, positional_rule, quiet_rule, workers_rule};
 
-use crate::help::{KINDS_AND_FILES, PICTURES, STATUSES, STREAMS};
+use crate::help::{FILES, MORE, NAMES, PICTURES, STATUSES, STREAMS};
 use clap::{Arg, ArgAction, Command};
 use kpn_args::{with_arg, with_subcommand};
 use std::alloc::{AllocError, Global};
 
 pub(crate) fn command_line<'a>(alloc: Global) -> Result<Command<'a>, AllocError>
     ensures { Makes hox result }
+{
+    with_subcommand(commands_on_files(alloc), kinds(alloc))
+}
+
+/// Adds the subcommands on a description.
+fn commands_on_files<'a>(alloc: Global) -> Result<Command<'a>, AllocError>
+    ensures { Makes hox_four result }
 {
     let command = with_subcommand(check_and_run(alloc), draw(alloc));
     with_subcommand(command, stream(alloc))
@@ -32,29 +39,30 @@ fn bare_hox<'a>(alloc: Global) -> Command<'a>
         .about("Runs Kahn process networks on tokens of files")
         .after_help(STATUSES)
         .version("0.1.0")
-        .disable_help_subcommand(true)
         .subcommand_required(true)
 }
 
 fn check<'a>(alloc: Global) -> Result<Command<'a>, AllocError>
     ensures { MakesLocal hox_check_command result }
 {
-    let check = Ok(bare(
-        alloc,
-        "check",
-        "Checks a description and its files of tokens, and counts its processes and channels",
-        KINDS_AND_FILES,
-    ));
+    let about =
+        "Checks a description and its files of tokens, and counts its processes and channels";
+    let check = Ok(on_files(alloc, "check", about));
+    let expanded =
+        "Writes the network as a description instead: copies, sorts and tokens of files written out";
     let check = with_arg(check, tokens(alloc));
     let check = with_arg(check, format(alloc));
+    let check = with_arg(check, flag(alloc, "expanded", expanded));
     with_arg(check, file(alloc))
 }
 
 fn run<'a>(alloc: Global) -> Result<Command<'a>, AllocError>
     ensures { MakesLocal hox_run_command result }
 {
-    let progress = "Shows progress on standard error, even if that is no terminal";
+    let progress = "Shows progress on standard error in any case";
     let run = with_arg(run_bounds(alloc), flag(alloc, "progress", progress));
+    let json = "Writes the report as one JSON object on a line";
+    let run = with_arg(run, flag(alloc, "json", json));
     let run = with_arg(run, quiet(alloc));
     with_arg(run, file(alloc))
 }
@@ -63,9 +71,7 @@ fn run<'a>(alloc: Global) -> Result<Command<'a>, AllocError>
 fn run_bounds<'a>(alloc: Global) -> Result<Command<'a>, AllocError>
     ensures { MakesLocal hox_run_bounds result }
 {
-    let budget =
-        "The most entries that the run may have [default: that of the description, or else the greatest of its version]";
-    let run = with_arg(run_streams(alloc), option(alloc, "budget", "N", budget));
+    let run = with_arg(run_streams(alloc), budget(alloc));
     with_arg(run, workers(alloc))
 }
 
@@ -73,13 +79,9 @@ fn run_bounds<'a>(alloc: Global) -> Result<Command<'a>, AllocError>
 fn run_streams<'a>(alloc: Global) -> Result<Command<'a>, AllocError>
     ensures { MakesLocal hox_run_streams result }
 {
-    let run = Ok(bare(
-        alloc,
-        "run",
-        "Runs the network of a description, reports its end, and writes its streams",
-        KINDS_AND_FILES,
-    ));
-    let show = "Adds the stream of this channel to the report; repeatable";
+    let about = "Runs the network of a description, reports its end, and writes its streams";
+    let run = Ok(on_files(alloc, "run", about));
+    let show = "Adds the channel's stream to the report";
     let run = with_arg(run, tokens(alloc));
     let run = with_arg(run, out(alloc));
     let run = with_arg(run, format(alloc));
@@ -118,17 +120,40 @@ fn stream<'a>(alloc: Global) -> Result<Command<'a>, AllocError>
     let stream = Ok(bare(
         alloc,
         "stream",
-        "Runs the network of a description without end, on tokens as they come, in bounded memory",
+        "Runs a network on tokens as they come, without end and in bounded memory",
         STREAMS,
     ));
-    let input =
-        "Feeds the channel with the tokens of the file as they come, one a line; - is standard input; repeatable";
+    let input = "Feeds the file's tokens to the channel";
     let stream = with_arg(stream, list(alloc, "in", "CHANNEL=FILE", input));
     let stream = with_arg(stream, out(alloc));
     let stream = with_arg(stream, format(alloc));
     let stream = with_arg(stream, unsigned(alloc));
+    let progress = "Shows how many tokens came and went";
+    let stream = with_arg(stream, flag(alloc, "progress", progress));
+    let watch = "Shows how full the channels are, twice a second";
+    let stream = with_arg(stream, flag(alloc, "watch", watch));
     let stream = with_arg(stream, quiet(alloc));
     with_arg(stream, file(alloc))
+}
+
+fn kinds<'a>(alloc: Global) -> Result<Command<'a>, AllocError>
+    ensures { MakesLocal hox_kinds_command result }
+{
+    let kinds = Ok(bare(
+        alloc,
+        "kinds",
+        "Lists the kinds of processes, with their arguments and ports",
+        NAMES,
+    ));
+    let name = "The kind to tell of [default: all]";
+    with_arg(kinds, positional(alloc, "name", "NAME", name))
+}
+
+/// Makes a subcommand without arguments, whose long help tells of files.
+fn on_files<'a>(alloc: Global, name: &'a str, about: &'a str) -> Command<'a>
+    ensures { IsLocal (new_app name.now) result }
+{
+    bare(alloc, name, about, MORE).after_long_help(FILES)
 }
 
 /// Makes a subcommand without arguments.
@@ -144,25 +169,23 @@ fn tokens<'a>(alloc: Global) -> Arg<'a>
     ensures rule { rule_of result ≡ list_rule (codes "tokens") }
     ensures local { result.global ≡ false }
 {
-    let help = "Puts the tokens of the file into the channel at the start, one a line; repeatable";
+    let help = "Puts the file's tokens into the channel first";
     list(alloc, "tokens", "CHANNEL=FILE", help)
 }
 
 fn out<'a>(alloc: Global) -> Arg<'a>
-    ensures rule { rule_of result ≡ list_rule (codes "out") }
+    ensures rule { rule_of result ≡ out_rule }
     ensures local { result.global ≡ false }
 {
-    let help =
-        "Writes the stream of the channel to the file, one token a line; - is standard output; repeatable";
-    list(alloc, "out", "CHANNEL=FILE", help)
+    let help = "Writes what goes through the channel to a file";
+    list(alloc, "out", "CHANNEL=FILE", help).short('o')
 }
 
 fn format<'a>(alloc: Global) -> Arg<'a>
     ensures rule { rule_of result ≡ list_rule (codes "format") }
     ensures local { result.global ≡ false }
 {
-    let help =
-        "The format of the channel's file: text, csv, wav, or samples such as s16le (below); all means all files; repeatable";
+    let help = "The file's format: text, csv, wav, s16le, ..";
     list(alloc, "format", "CHANNEL=FORMAT", help)
 }
 
@@ -170,24 +193,31 @@ fn unsigned<'a>(alloc: Global) -> Arg<'a>
     ensures rule { rule_of result ≡ list_rule (codes "unsigned") }
     ensures local { result.global ≡ false }
 {
-    let help =
-        "Writes the words of the channel as numbers from 0 to 2^64 - 1; all means all channels; repeatable";
+    let help = "Writes the channel's words from 0 to 2^64 - 1";
     list(alloc, "unsigned", "CHANNEL", help)
 }
 
+fn budget<'a>(alloc: Global) -> Arg<'a>
+    ensures rule { rule_of result ≡ budget_rule }
+    ensures local { result.global ≡ false }
+{
+    let help = "The most entries [default: the description's]";
+    option(alloc, "budget", "N", help).short('n')
+}
+
 fn workers<'a>(alloc: Global) -> Arg<'a>
-    ensures rule { rule_of result ≡ option_rule (codes "workers") }
+    ensures rule { rule_of result ≡ workers_rule }
     ensures local { result.global ≡ false }
 {
     let help = "How many workers run the network [default: 1]";
-    option(alloc, "workers", "N", help)
+    option(alloc, "workers", "N", help).short('w')
 }
 
 fn quiet<'a>(alloc: Global) -> Arg<'a>
-    ensures rule { rule_of result ≡ flag_rule (codes "quiet") }
+    ensures rule { rule_of result ≡ quiet_rule }
     ensures local { result.global ≡ false }
 {
-    flag(alloc, "quiet", "Writes no report")
+    flag(alloc, "quiet", "Writes no report").short('q')
 }
 
 /// Makes a repeatable option `--name VALUE`.
@@ -228,7 +258,14 @@ fn file<'a>(alloc: Global) -> Arg<'a>
     ensures rule { rule_of result ≡ hox_file_rule }
     ensures local { result.global ≡ false }
 {
-    Arg::new(alloc, "file").value_name("FILE").help(
-        "The file of the description [default: standard input, as -]",
-    )
+    let help = "The file of the description [default: standard input, as -]";
+    positional(alloc, "file", "FILE", help)
+}
+
+/// Makes an argument without a name of its own.
+fn positional<'a>(alloc: Global, name: &'a str, value: &'a str, help: &'a str) -> Arg<'a>
+    ensures rule { rule_of result ≡ positional_rule name.now }
+    ensures local { result.global ≡ false }
+{
+    Arg::new(alloc, name).value_name(value).help(help)
 }

@@ -17,11 +17,17 @@ Exit status:
   8  internal error: a worker's answer was rejected; the run was abandoned
 ";
 
-/// The syntax of descriptions and token files, for the help of the subcommands.
-pub const KINDS_AND_FILES: &str = "\
+/// What the short help of the subcommands ends with.
+pub(crate) const MORE: &str = "\
+An option of a CHANNEL may be repeated. The FILE - is standard input or output.
+--help tells of files, formats and descriptions; hox kinds lists the kinds.
+";
+
+/// The syntax of token files and descriptions, for the long help of the subcommands.
+pub(crate) const FILES: &str = "\
 A file of tokens has one on each line: a word from -2^63 to 2^64 - 1 in decimal, such as 21 or -21, or in hexadecimal
 after 0x; or a flag, true or false. A word has 64 bits in two's complement: -1 and 18446744073709551615 are the same
-word, written as -1 (--unsigned CHANNEL writes the other). The rest of a line after a comma or # is ignored, and so
+word, written as -1 (--unsigned CHANNEL, or all, writes the other). The rest of a line after a comma or # is ignored, and so
 is a line without a token. A file may have 1,000,000 tokens, 65,535 in version 1 of the description; hox stream
 takes any number. The channel's capacity becomes at least their number.
 
@@ -50,7 +56,12 @@ The description is TOML. Its keys, with their defaults in brackets:
     sort          \"words\" or \"flags\" [that of its two ports]
     capacity      how many tokens it may hold [1]
     tokens        what it holds at the start, in version 2 [nothing]
+    delay         how many zeros, or false, it holds before those, in version 2 [0]
+Without a budget a run has the greatest one of its version. Several channels may leave an output: each gets all.
+";
 
+/// The kinds of processes, each on a line that begins with two spaces and its name.
+pub const KINDS: &str = "\
 Kinds of processes, with their arguments and their ports, inputs -> outputs (w a word, f a flag):
   count FROM N    -> w        writes FROM, FROM + 1, .. (N words), then stops
   sink N          w ->        reads N words, then stops
@@ -85,8 +96,23 @@ Kinds of processes, with their arguments and their ports, inputs -> outputs (w a
   delay N         w -> w      writes for each word the one N before, 0 at first; N from 1 to 4
   low_pass K      w -> w      y += (x - y) / 2^K, rounded down, signed, from y = 0: writes y; K from 0 to 63
   clip LO HI      w -> w      writes the nearest word from LO to HI, signed
+  copy_flags      f -> f f    writes each flag to both outputs
+  min             w w -> w    writes the lesser word, signed
+  max             w w -> w    writes the greater word, signed
+  abs             w -> w      writes the absolute value of each word, signed
+  offset K        w -> w      writes each word plus K, modulo 2^64
+  gain A B        w -> w      writes each word * A / B, rounded down, signed, then modulo 2^64; B at least 1
+  div             w w -> w    writes input 0's word / input 1's, rounded down, signed; 0 if that is 0
+  mod             w w -> w    writes what div leaves of input 0's word, with the sign of input 1's; all if that is 0
+  sum             w -> w      writes the sum of all words so far, modulo 2^64
+  difference      w -> w      writes each word minus the one before, 0 at first
+  average N       w -> w      writes the mean of the last N words, rounded down, signed, 0 before the first; N from 1 to 5
+  counter         f -> w      writes how many flags were true so far
+  edge            f -> f      writes whether the flag is true and the one before is not, false before the first
+  noise SEED      -> w        writes the words of the generator SplitMix64 for ever
+  gate            w f -> w    writes the words whose flag is true
 Signed means two's complement: from 2^63 on, a word stands for itself minus 2^64. V of constant, hold and prefix,
-K of scale, and LO and HI of clip may be negative.
+K of scale and offset, A of gain, and LO and HI of clip may be negative.
 ";
 
 /// Pictures, for the help of `draw`.
@@ -103,5 +129,11 @@ Example, in a pipe:
   generator | hox stream low_pass.toml --in x=- --out y=- | plot
 Samples of 16 bits in a pipe:
   sox in.wav -t raw -e signed -b 16 -c 1 - | hox stream low_pass.toml --in x=- --out y=- --format all=s16le | ..
-hox run --help describes descriptions, files of tokens and formats.
+An option of a CHANNEL may be repeated. hox run --help tells of files, formats and descriptions.
+";
+
+/// The help of `kinds`.
+pub(crate) const NAMES: &str = "\
+Example:
+  hox kinds low_pass
 ";

@@ -6,8 +6,8 @@ mod command;
 mod help;
 
 pub use arguments::{
-    CheckChoice, Choice, DrawChoice, MAX_WORKERS, RunChoice, StreamChoice, WordsFault,
+    CheckChoice, Choice, DrawChoice, KindsChoice, MAX_WORKERS, RunChoice, StreamChoice, WordsFault,
     channel_and_file, read_words,
 };
-pub use help::KINDS_AND_FILES;
+pub use help::KINDS;
 pub use kpn_picture::Direction;

@@ -4,7 +4,7 @@ use Rattle.kpn_model.specs.declared.kinds.Card.{Card}
 use Rattle.kpn_model.specs.declared.kinds.Signature.{Signature}
 use Rattle.kpn_model.specs.Network.{Family}
 use Rattle.hox_args.specs.declared.arguments.Choice.{Choice}
-use Rattle.hox_args.specs.declared.arguments.Choice.TheVariants.{Check, Run, Draw, Stream}
+use Rattle.hox_args.specs.declared.arguments.Choice.TheVariants.{Check, Run, Draw, Stream, Kinds}
 use Rattle.hox_args.specs.declared.arguments.WordsFault.{WordsFault}
 use Rattle.hox_args.specs.HoxChoices.{IsHoxChoice}
 use Rattle.hox_execute.specs.declared.serving.Outcome.{Outcome}
@@ -18,6 +18,7 @@ no_words named signature contents clash (Check check) fault h = h
 no_words named signature contents clash (Run run) fault h = h
 no_words named signature contents clash (Draw draw) fault h = h
 no_words named signature contents clash (Stream stream) fault h = h
+no_words named signature contents clash (Kinds kinds) fault h = h
 
 module _ (words : List (List ℕ)) (choice : Choice) (chosen : IsHoxChoice words choice) (named : List ℕ → Option (ℕ × ℕ)) (signature : Card → Option Signature) (contents : List ℕ → Option (List ℕ)) (clash : List ℕ → Bool → List ℕ → Bool → Option Bool) where
   pub served :

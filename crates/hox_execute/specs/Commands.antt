@@ -1,5 +1,5 @@
 -- What the commands of `hox` do, from what is wanted and files to what is written.
-use Rattle.std.specs.Prelude.{◌≡◌, ℕ, Bool, List, [], ◌∷◌, Option, Result, Ok, Err, MatchResult}
+use Rattle.std.specs.Prelude.{◌≡◌, ℕ, Bool, true, false, List, [], ◌∷◌, Option, Result, Ok, Err, MatchResult}
 use Rattle.kpn_model.specs.declared.kinds.Card.{Card}
 use Rattle.kpn_model.specs.declared.kinds.Signature.{Signature}
 use Rattle.kpn_model.specs.Network.{Family, Network}
@@ -19,11 +19,17 @@ use Rattle.hox_files.specs.declared.stops.Stop.{Stop}
 use Rattle.hox_files.specs.declared.stops.Stop.TheVariants.{Clash, Format, InputTwice, Memory, NoPair, Refused, Unread, Words}
 use Rattle.hox_files.specs.Files.{Effect, standard, wrote}
 use Rattle.hox_execute.specs.Reports.{IsNoted, Writes, rate_of, written_of}
+use Rattle.hox_expanded.specs.Description.{description}
 use Rattle.hox_files.specs.Requests.{IsAsked, IsUnasked, ServesFile, Want}
 
 -- the result of drawing a loaded network: its picture, or a fault
 abbrev pub GivesDrawing : Family → (ℕ → List ℕ × ℕ) → Direction → Bool → Request → Network → Result (List ℕ) Fault → Type 0
 GivesDrawing kinds title direction is_run request net result = MatchResult result (DrawsPrepared kinds title direction is_run request net) (IsFault request net)
+
+-- what is written of a network that is accepted: a line, or the network as a description
+abbrev pub checked_text : (ℕ → List ℕ × ℕ) → Bool → Network → List ℕ
+checked_text title false net = checked_line net
+checked_text title true net = description net title
 
 -- a family's names and ports; the contents of each file and which names clash, if known; what is wanted; and
 -- the texts CHANNEL=FILE of tokens and of streams
@@ -52,15 +58,15 @@ module _ (named : List ℕ → Option (ℕ × ℕ)) (signature : Card → Option
       pub told : Told
       pub noted : IsNoted asked.tokens.items asked.outputs.items told ran
       pub comes : Comes (GivesRun kinds) asked (Ok told)
-      pub writes : Writes told.status (written_of want.is_quiet (rate_of asked.request.tokens) asked.outputs.items told) steady before after ran.status
+      pub writes : Writes told.status (written_of want (rate_of asked.request.tokens) asked.outputs.items told) steady before after ran.status
 
     module _ (status : Status) where
-      -- the description is a network, and that is written
-      pub record HasChecked : Type 0 where
+      -- the description is a network, and that is written, or the network
+      pub record HasChecked (title : ℕ → List ℕ × ℕ) (expanded : Bool) : Type 0 where
         pub asked : Asked
         pub net : Network
         pub comes : Comes GivesNet asked (Ok net)
-        pub writes : Writes Success (wrote standard (checked_line net) ∷ []) steady before after status
+        pub writes : Writes Success (wrote standard (checked_text title expanded net) ∷ []) steady before after status
 
       -- the network is drawn, as it is or as a run left it, and the picture is written
       pub record HasDrawn (kinds : Family) (title : ℕ → List ℕ × ℕ) (direction : Direction) (is_run : Bool) : Type 0 where

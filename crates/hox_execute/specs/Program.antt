@@ -5,14 +5,14 @@ use Rattle.kpn_model.specs.declared.kinds.Signature.{Signature}
 use Rattle.kpn_model.specs.Network.{Family}
 use Rattle.kpn_front.specs.declared.status.Status.{Status}
 use Rattle.hox_args.specs.declared.arguments.Choice.{Choice}
-use Rattle.hox_args.specs.declared.arguments.Choice.TheVariants.{Check, Run, Draw, Stream}
+use Rattle.hox_args.specs.declared.arguments.Choice.TheVariants.{Check, Run, Draw, Stream, Kinds}
 use Rattle.hox_args.specs.declared.arguments.CheckChoice.{CheckChoice}
 use Rattle.hox_args.specs.declared.arguments.DrawChoice.{DrawChoice}
 use Rattle.hox_args.specs.declared.arguments.RunChoice.{RunChoice}
 use Rattle.hox_args.specs.HoxChoices.{IsHoxChoice, IsHoxFault}
 use Rattle.hox_execute.specs.declared.running.Ran.{Ran as RanV}
 use Rattle.hox_execute.specs.declared.serving.Outcome.{Outcome}
-use Rattle.hox_execute.specs.declared.serving.Outcome.TheVariants.{Exits, Ran, Streams}
+use Rattle.hox_execute.specs.declared.serving.Outcome.TheVariants.{Exits, Ran, Streams, Lists}
 use Rattle.hox_files.specs.declared.stops.Stop.{Stop}
 use Rattle.hox_files.specs.declared.stops.Stop.TheVariants.{Clash, Format, InputTwice, Memory, NoPair, Refused, Unread, Words}
 use Rattle.hox_execute.specs.Commands.{HasChecked, HasDrawn, HasRun, IsStop}
@@ -21,11 +21,11 @@ use Rattle.hox_files.specs.Requests.{Want}
 
 -- what a command wants of the description in this file, or on standard input
 abbrev pub want_in : Option (List ℕ) → List (List ℕ) → ℕ → Want
-want_in file formats workers = record { file = unwrap_or file standard; workers = workers; budget = None; show = []; formats = formats; unsigned = []; is_quiet = false }
+want_in file formats workers = record { file = unwrap_or file standard; workers = workers; budget = None; show = []; formats = formats; unsigned = []; is_quiet = false; is_json = false }
 
 abbrev pub want_of_run : RunChoice → Want
 want_of_run run =
-    record (want_in (option_map (λ s. s.now) run.file) (map (λ s. s.now) run.formats.items) run.workers) { budget = run.budget; show = map (λ s. s.now) run.show.items; unsigned = map (λ s. s.now) run.unsigned.items; is_quiet = run.quiet }
+    record (want_in (option_map (λ s. s.now) run.file) (map (λ s. s.now) run.formats.items) run.workers) { budget = run.budget; show = map (λ s. s.now) run.show.items; unsigned = map (λ s. s.now) run.unsigned.items; is_quiet = run.quiet; is_json = run.json }
 
 -- a network drawn as it is has one worker
 abbrev pub want_of_draw : DrawChoice → Want
@@ -46,20 +46,14 @@ module _ (kinds : Family) (named : List ℕ → Option (ℕ × ℕ)) (signature 
     DrawsChoice draw status =
         HasDrawn named signature contents clash (want_of_draw draw) (map (λ s. s.now) draw.tokens.items) [] steady before after status kinds title draw.direction (is_some draw.workers)
 
-    -- the choice is carried out, or left as a stream, with nothing done
+    -- the choice is carried out, or left as a stream or a list, with nothing done
     abbrev pub Does : Choice → Outcome → Type 0
-    Does (Check check) (Exits status) = HasChecked named signature contents clash (want_of_check check) (map (λ s. s.now) check.tokens.items) [] steady before after status
-    Does (Check check) (Ran ran) = ⊥
-    Does (Check check) (Streams stream) = ⊥
-    Does (Run run) (Exits status) = ⊥
+    Does (Check check) (Exits status) = HasChecked named signature contents clash (want_of_check check) (map (λ s. s.now) check.tokens.items) [] steady before after status title check.expanded
     Does (Run run) (Ran ran) = RunsChoice run ran
-    Does (Run run) (Streams stream) = ⊥
     Does (Draw draw) (Exits status) = DrawsChoice draw status
-    Does (Draw draw) (Ran ran) = ⊥
-    Does (Draw draw) (Streams stream) = ⊥
-    Does (Stream chosen) (Exits status) = ⊥
-    Does (Stream chosen) (Ran ran) = ⊥
     Does (Stream chosen) (Streams stream) = (stream ≡ chosen) × (after ≡ before)
+    Does (Kinds chosen) (Lists kinds) = (kinds ≡ chosen) × (after ≡ before)
+    Does _ _ = ⊥
 
     -- the arguments are a choice, and it is carried out
     pub record Serves (words : List (List ℕ)) (outcome : Outcome) : Type 0 where
@@ -79,6 +73,7 @@ module _ (named : List ℕ → Option (ℕ × ℕ)) (signature : Card → Option
   IsStopIn (Run run) stop = IsRunStop run stop
   IsStopIn (Draw draw) stop = IsDrawStop draw stop
   IsStopIn (Stream chosen) stop = ⊥
+  IsStopIn (Kinds chosen) stop = ⊥
 
   -- the arguments are wrong, or they are a choice that is not carried out
   abbrev pub IsProgramStop : List (List ℕ) → Stop → Type 0

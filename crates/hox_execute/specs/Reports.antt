@@ -22,6 +22,8 @@ use Rattle.hox_execute.specs.declared.texts.FileNote.{FileNote}
 use Rattle.hox_files.specs.Files.{Effect, GoOn, not_said, not_written, said, standard, wrote}
 use Rattle.hox_run.specs.Telling.{fitting}
 use Rattle.hox_files.specs.Pairs.{channels_of, count_standard, firsts, group_in, is_alone, shared_in}
+use Rattle.hox_files.specs.Requests.{Want}
+use Rattle.hox_json.specs.Json.{json_text}
 
 -- the samples per second if no file states them
 abbrev pub usual_rate : ℕ
@@ -96,8 +98,12 @@ abbrev pub told_written : Bool → List Pair → List ℕ → List (List ℕ) �
 told_written true outputs report texts = streams_written outputs texts
 told_written false outputs report texts = reported outputs report ∷ streams_written outputs texts
 
-abbrev pub written_of : Bool → ℕ → List Pair → Told → List Effect
-written_of is_quiet rate outputs told = told_written is_quiet (firsts outputs) (string_bytes told.report) (file_texts rate outputs told.outputs.items)
+-- the report as lines, or those as JSON
+abbrev pub report_as : Bool → List ℕ → List ℕ
+report_as is_json report = if is_json then json_text report else report
+
+abbrev pub written_of : Want → ℕ → List Pair → Told → List Effect
+written_of want rate outputs told = told_written want.is_quiet (firsts outputs) (report_as want.is_json (string_bytes told.report)) (file_texts rate outputs told.outputs.items)
 
 -- what is left of an effect that fails
 abbrev pub failure_of : Effect → Effect

@@ -3,8 +3,9 @@ use Rattle.std.specs.Prelude.{◌≡◌, ◌⊎◌, ℕ, codes, Bool, false, tru
 use Rattle.std.specs.List.{AllZip, Any, filter}
 use Rattle.std.specs.Io.KnownBytes.{Appends}
 use Rattle.kpn_sketch.specs.declared.fault.NetFault.TheVariants.{Input}
+use Rattle.kpn_sketch.specs.declared.sketch.Delayed.{Delayed}
 use Rattle.kpn_sketch.specs.declared.sketch.Sketch.{Sketch}
-use Rattle.kpn_sketch.specs.Description.{Describes}
+use Rattle.kpn_sketch.specs.Description.{DescribesDelayed, delayed_of}
 use Rattle.kpn_model.specs.declared.kinds.Card.{Card}
 use Rattle.kpn_model.specs.declared.kinds.Signature.{Signature}
 use Rattle.kpn_model.specs.Network.{Family, Network}
@@ -13,7 +14,7 @@ use Rattle.kpn_front.specs.Loading.{LoadsChanged}
 use Rattle.kpn_front.specs.Written.{SinkView}
 use Rattle.kpn_compute.specs.Both.{both_family, both_named, both_ports}
 use Rattle.kpn_flow.specs.Flows.{FlowView}
-use Rattle.hox_network.specs.Ports.{as_meant}
+use Rattle.hox_network.specs.Meant.{as_meant}
 use Rattle.hox_stream.specs.declared.finish.Finish.{Finish}
 use Rattle.hox_stream.specs.declared.serving.LaidOut.{LaidOut}
 use Rattle.hox_stream.specs.declared.serving.LaidTable.{LaidTable}
@@ -194,7 +195,7 @@ pub record RunsBetween (kinds : Family) (contents : List ℕ → Option (List �
   pub serves : Serves kinds start t (sources_at start openings) ins (new_outs (λ (v : SinkView). v) start.outputs sinks tables) outs finish
 
 abbrev pub IsRefusedText : (List ℕ → Option (ℕ × ℕ)) → (Card → Option Signature) → List ℕ → Unopened → Type 0
-IsRefusedText named signature text (IsRefused refused error) = LoadsChanged (as_meant named signature text) named signature false text (Err refused.fault)
+IsRefusedText named signature text (IsRefused refused error) = LoadsChanged delayed_of (as_meant named signature text) named signature false text (Err refused.fault)
 IsRefusedText named signature text (Faulty channels fault) = ⊥
 IsRefusedText named signature text NoMemory = Unit {0}
 
@@ -207,7 +208,7 @@ IsUnreadText NoMemory = Unit {0}
 module _ (named : List ℕ → Option (ℕ × ℕ)) (signature : Card → Option Signature) where
   -- a text has this completed sketch
   abbrev pub IsSketchOf : List ℕ → Sketch → Type 0
-  IsSketchOf text sketch = (described : Sketch) × Describes text described × (sketch ≡ as_meant named signature text described)
+  IsSketchOf text sketch = (described : Delayed) × DescribesDelayed text described × (sketch ≡ as_meant named signature text described)
 
   module _ (contents : List ℕ → Option (List ℕ)) (name : List ℕ) where
     -- this is the text of the file, if known

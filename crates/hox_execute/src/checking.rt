@@ -4,11 +4,12 @@ ghost use Rattle.kpn_front.specs.Lines.{checked_line};
 ghost use Rattle.kpn_model.specs.Network.{Network as NetworkV};
 ghost use Rattle.hox_network.specs.declared.request.Fault.{Fault as FaultV};
 ghost use Rattle.hox_network.specs.Preparing.{GivesNet};
-ghost use Rattle.hox_execute.specs.Commands.{HasChecked, IsStop};
+ghost use Rattle.hox_execute.specs.Commands.{HasChecked, IsStop, checked_text};
 ghost use Rattle.hox_files.specs.Requests.{ServesFile, want_of};
 ghost use Rattle.hox_files.specs.Served.{ServesNamed};
 
 use crate::writing::write_text;
+use hox_expanded::description_of;
 use hox_files::files::FileSystem;
 use hox_files::reading::{Wanted, asked_of};
 use hox_files::stops::{Refusal, Stop, Unserved, unopened};
@@ -17,26 +18,28 @@ use hox_network::{Fault, Request, prepare};
 use kpn_front::{Status, say_checked};
 use kpn_model::Kinds;
 use kpn_network::Net;
+use kpn_picture::Titled;
 use std::alloc::{AllocError, Global};
 
 /// The room of a line in bytes: two numbers and the text around them.
 const LINE_BYTES: usize = 64;
 
-/// Writes that the description, with the tokens of these files, is a network. Returns the exit status.
-/// Errors: see [`Stop`].
-pub(crate) fn check<'a, K: Kinds, S: FileSystem>(
+/// Writes that the description, with the tokens of these files, is a network, or if `is_expanded` the network as a
+/// description. Returns the exit status. Errors: see [`Stop`].
+pub(crate) fn check<'a, K: Titled, S: FileSystem>(
     alloc: Global,
     files: &mut S,
     wanted: Wanted<'a, '_>,
     tokens: &[&'a str],
+    is_expanded: bool,
 ) -> Result<Status, Stop<'a>>
-    ensures done { IfOk result (HasChecked K.named K.signature (S.contents files.old) (S.clash files.old) (want_of wanted.entry) (map (λ t. t.now) tokens.now) [] (S.is_steady files.old) (S.effects files.old) (S.effects files.new)) }
+    ensures done { IfOk result (λ status. HasChecked K.named K.signature (S.contents files.old) (S.clash files.old) (want_of wanted.entry) (map (λ t. t.now) tokens.now) [] (S.is_steady files.old) (S.effects files.old) (S.effects files.new) status K.title is_expanded) }
     ensures stop { IfErr result (IsStop K.named K.signature (S.contents files.old) (S.clash files.old) (want_of wanted.entry) (map (λ t. t.now) tokens.now) []) }
     ensures untouched { OnErr result (S.effects files.new ≡ S.effects files.old) }
 {
     let asked = asked_of(alloc, files, wanted, tokens, &[])?;
-    match checked_line::<K, S>(alloc, files, &asked.request, wanted.file) {
-        Ok(line) => Ok(write_text(files, line.as_slice())),
+    match checked_text::<K, S>(alloc, files, &asked.request, wanted.file, is_expanded) {
+        Ok(text) => Ok(write_text(files, text.as_slice())),
         Err(Unserved { fault, error }) => Err(Stop::Refused(Refusal {
             file: wanted.file,
             asked,
@@ -46,18 +49,19 @@ pub(crate) fn check<'a, K: Kinds, S: FileSystem>(
     }
 }
 
-fn checked_line<K: Kinds, S: FileSystem>(
+fn checked_text<K: Titled, S: FileSystem>(
     alloc: Global,
     files: &S,
     request: &Request,
     name: &str,
+    is_expanded: bool,
 ) -> Result<Vec<u8>, Unserved>
-    ensures ok { IfOk result (λ line. (net : NetworkV) × ServesFile (S.contents files.now) K.named K.signature (GivesNet request.now) name.now (Ok net) × (line.items ≡ checked_line net)) }
+    ensures ok { IfOk result (λ text. (net : NetworkV) × ServesFile (S.contents files.now) K.named K.signature (GivesNet request.now) name.now (Ok net) × (text.items ≡ checked_text K.title is_expanded net)) }
     ensures fault { IfErr result (λ u. let refused : Result NetworkV FaultV = Err u.fault in ServesFile (S.contents files.now) K.named K.signature (GivesNet request.now) name.now refused) }
 {
     let net = prepared_net::<K, S>(alloc, files, request, name)?;
-    match line_of(alloc, &net) {
-        Ok(line) => Ok(line),
+    match text_of(alloc, &net, is_expanded) {
+        Ok(text) => Ok(text),
         Err(_) => Err(Unserved {
             fault: Fault::Memory,
             error: None,
@@ -84,6 +88,16 @@ fn prepared_net<K: Kinds, S: FileSystem>(
             fault,
             error: source.error(),
         }),
+    }
+}
+
+fn text_of<K: Titled>(alloc: Global, net: &Net<K>, is_expanded: bool) -> Result<Vec<u8>, AllocError>
+    ensures { IfOk result (λ text. text.items ≡ checked_text K.title is_expanded net.now) }
+{
+    if is_expanded {
+        Ok(description_of(alloc, net)?.into_bytes())
+    } else {
+        line_of(alloc, net)
     }
 }
 

@@ -1,10 +1,10 @@
 //! Runs a network.
-ghost use Rattle.std.specs.Prelude.{◌≡◌, ◌≤◌, IfOk, IfErr, OnErr, map};
+ghost use Rattle.std.specs.Prelude.{◌≡◌, ◌≤◌, IfOk, IfErr, OnErr, map, string_bytes};
 ghost use Rattle.kpn_model.specs.Families.{family};
 ghost use Rattle.hox_network.specs.Preparing.{HasFewWorkers};
 ghost use Rattle.hox_run.specs.Serving.{GivesRun};
 ghost use Rattle.hox_execute.specs.Commands.{HasRun, IsStop};
-ghost use Rattle.hox_execute.specs.Reports.{IsNoted, Writes, rate_of, written_of};
+ghost use Rattle.hox_execute.specs.Reports.{IsNoted, Writes, rate_of, report_as, written_of};
 ghost use Rattle.hox_files.specs.Requests.{want_of};
 ghost use Rattle.hox_files.specs.Served.{ServesNamed};
 
@@ -15,11 +15,12 @@ use hox_files::pairs::{Pair, firsts_of};
 use hox_files::reading::{Asked, Wanted, asked_of};
 use hox_files::stops::{Refusal, Stop, Unserved, unopened};
 use hox_files::watching::Watched;
+use hox_json::json_of_report;
 use hox_network::Request;
 use hox_run::{Notes, Progress, Told, serve};
 use kpn_compute::Computes;
 use kpn_front::Status;
-use std::alloc::Global;
+use std::alloc::{AllocError, Global};
 use std::rt::Clock;
 use std::sync::Wait;
 use std::thread::Threads;
@@ -53,7 +54,7 @@ pub(crate) fn run<'a, K: Computes, S: FileSystem, R: Wait + Clock + Threads + Sy
 {
     let asked = asked_of(alloc, files, wanted, tokens, outputs)?;
     match told_of::<K, S, R, P>(rt, alloc, files, &asked.request, wanted.file, progress) {
-        Ok(told) => ran_of(alloc, files, told, asked, wanted.is_quiet),
+        Ok(told) => ran_of(alloc, files, told, asked, wanted),
         Err(Unserved { fault, error }) => Err(Stop::Refused(Refusal {
             file: wanted.file,
             asked,
@@ -69,9 +70,9 @@ fn ran_of<'a, S: FileSystem>(
     files: &mut S,
     told: Told,
     asked: Asked<'a>,
-    is_quiet: bool,
+    wanted: Wanted<'_, '_>,
 ) -> Result<Ran<'a>, Stop<'a>>
-    ensures writes { IfOk result (λ ran. Writes told.status (written_of is_quiet (rate_of asked.entry.request.tokens) asked.entry.outputs.items told) (S.is_steady files.old) (S.effects files.old) (S.effects files.new) ran.status) }
+    ensures writes { IfOk result (λ ran. Writes told.status (written_of (want_of wanted.entry) (rate_of asked.entry.request.tokens) asked.entry.outputs.items told) (S.is_steady files.old) (S.effects files.old) (S.effects files.new) ran.status) }
     ensures notes { IfOk result (IsNoted asked.entry.tokens.items asked.entry.outputs.items told) }
     ensures stop { IfErr result (λ stop. stop ≡ Stop.Memory) }
     ensures untouched { OnErr result (S.effects files.new ≡ S.effects files.old) }
@@ -97,8 +98,11 @@ fn ran_of<'a, S: FileSystem>(
     ) else {
         return Err(Stop::Memory);
     };
+    let Ok(report) = report_as(alloc, report, wanted.is_json) else {
+        return Err(Stop::Memory);
+    };
     let (firsts, texts) = (firsts.as_slice(), texts.as_slice());
-    let status = write_told(files, status, &report, firsts, texts, is_quiet);
+    let status = write_told(files, status, &report, firsts, texts, wanted.is_quiet);
     Ok(Ran {
         status,
         notes,
@@ -106,6 +110,17 @@ fn ran_of<'a, S: FileSystem>(
         outputs,
         files: noted,
     })
+}
+
+/// Returns a report as lines, or those as JSON. Errors: out of memory.
+fn report_as(alloc: Global, report: String, is_json: bool) -> Result<String, AllocError>
+    ensures { IfOk result (λ text. string_bytes text ≡ report_as is_json (string_bytes report)) }
+{
+    if is_json {
+        json_of_report(alloc, report.as_str())
+    } else {
+        Ok(report)
+    }
 }
 
 /// Runs the network of a description. A file that can't be opened counts as one that can't be read.

@@ -11,7 +11,7 @@ use crate::checking::check;
 use crate::drawing::draw;
 use crate::progress::Asking;
 use crate::running::{Ran, run};
-use hox_args::{Choice, DrawChoice, RunChoice, StreamChoice, read_words};
+use hox_args::{Choice, DrawChoice, KindsChoice, RunChoice, StreamChoice, read_words};
 use hox_files::files::FileSystem;
 use hox_files::pairs::name_of;
 use hox_files::reading::Wanted;
@@ -35,6 +35,8 @@ pub enum Outcome<'a> {
     Ran(Ran<'a>),
     /// This stream is still to be run. Nothing is done yet.
     Streams(StreamChoice<'a>),
+    /// These kinds are still to be listed. Nothing is done yet.
+    Lists(KindsChoice<'a>),
 }
 
 /// Executes the arguments; the first is the program's name. With a family of kinds, checks, runs or draws the
@@ -86,11 +88,13 @@ fn execute_choice<
     match choice {
         Choice::Check(chosen) => {
             let wanted = network_in(chosen.file, chosen.formats.as_slice());
-            exits(check::<K, S>(alloc, files, wanted, chosen.tokens.as_slice()))
+            let tokens = chosen.tokens.as_slice();
+            exits(check::<K, S>(alloc, files, wanted, tokens, chosen.expanded))
         }
         Choice::Run(run) => has_run(run_choice::<K, S, R, P>(rt, alloc, files, &run, progress)),
         Choice::Draw(draw) => exits(draw_choice::<K, S, R>(rt, alloc, files, &draw)),
         Choice::Stream(stream) => Ok(Outcome::Streams(stream)),
+        Choice::Kinds(kinds) => Ok(Outcome::Lists(kinds)),
     }
 }
 
@@ -123,6 +127,7 @@ fn network_in<'a, 'b>(file: Option<&'a str>, formats: &'b [&'a str]) -> Wanted<'
         formats,
         unsigned: &[],
         is_quiet: false,
+        is_json: false,
     }
 }
 
@@ -165,6 +170,7 @@ fn wanted_of<'a, 'b>(choice: &'b RunChoice<'a>) -> Wanted<'a, 'b>
         formats: choice.formats.as_slice(),
         unsigned: choice.unsigned.as_slice(),
         is_quiet: choice.quiet,
+        is_json: choice.json,
     }
 }
 
@@ -187,6 +193,7 @@ fn draw_choice<'a, K: Computes + Titled, S: FileSystem, R: Wait + Clock + Thread
         formats: choice.formats.as_slice(),
         unsigned: &[],
         is_quiet: false,
+        is_json: false,
     };
     draw::<K, S, R>(
         rt,

@@ -22,7 +22,10 @@ use hox_files::stops::Stop;
 use hox_files::uses::{Role, check_uses};
 use hox_format::{BeginFault, Begun, HeadFault, Resumed, begin};
 use hox_network::{channel_names, load_by_ports, sketch_by_ports};
-use hox_stream::{Exits, LaidOut, LaidTable, OpenStream, Served, StreamFault, open_stream, serve};
+use hox_stream::{
+    Exits, LaidEnds, LaidOut, LaidTable, Onlooker, OpenStream, Served, StreamFault, open_stream,
+    serve,
+};
 use kpn_compute::{Both, Computes};
 use kpn_front::{Refused, Sink, Source};
 use kpn_model::{Kinds, Listed, Text};
@@ -85,12 +88,14 @@ pub enum StreamStop<'a> {
 
 /// Runs the network of a description on tokens from files as they are read, and writes its outputs to files as they
 /// come, until the network, an input or an output ends the stream. A process that only reads an output stops at once.
+/// The onlooker sees how the stream goes.
 ///
 /// Errors: see [`StreamStop`].
-pub fn stream<'a, K: Computes, S: FileSystem>(
+pub fn stream<'a, K: Computes, S: FileSystem, L: Onlooker>(
     alloc: Global,
     files: &S,
     choice: &StreamChoice<'a>,
+    onlooker: &L,
 ) -> Result<Streamed<'a, Both<K, Exits>, Resumed<S::Input>, S::Output>, StreamStop<'a>>
     ensures done { IfOk result (λ s. StreamsBetween (family K.Kinds) K.named K.signature (S.contents files.now) (S.clash files.now) choice.now s.ends s.served.flow s.served.inlets.items (outs s.served.outlets.items s.served.tables.items) s.served.finish) }
     ensures stop { IfErr result (IsStreamStop (family K.Kinds) K.named K.signature (S.contents files.now) (S.clash files.now) choice.now) }
@@ -98,7 +103,7 @@ pub fn stream<'a, K: Computes, S: FileSystem>(
     let ends = ends_of(alloc, files, choice)?;
     let file = name_of(choice.file);
     match opened::<K, S>(alloc, files, file, &ends) {
-        Ok(start) => run_between(alloc, files, ends, start),
+        Ok(start) => run_between(alloc, files, ends, start, onlooker),
         Err(Unopened::Refused(refused, error)) => Err(StreamStop::Refused {
             file,
             refused,
@@ -285,11 +290,12 @@ fn channels_in<K: Kinds>(alloc: Global, text: &[u8]) -> Result<Listed<Text>, Uno
     }
 }
 
-fn run_between<'a, F: Computes, S: FileSystem>(
+fn run_between<'a, F: Computes, S: FileSystem, L: Onlooker>(
     alloc: Global,
     files: &S,
     ends: Ends<'a>,
     start: OpenStream<F>,
+    onlooker: &L,
 ) -> Result<Streamed<'a, F, Resumed<S::Input>, S::Output>, StreamStop<'a>>
     ensures done { IfOk result (λ s. (s.ends ≡ ends.entry) × RunsBetween (family F.Kinds) (S.contents files.now) ends.entry start s.served.flow s.served.inlets.items (outs s.served.outlets.items s.served.tables.items) s.served.finish) }
     ensures stop { IfErr result (IsUnfit ends.entry) }
@@ -298,24 +304,46 @@ fn run_between<'a, F: Computes, S: FileSystem>(
     let rate = rate_of(sources.as_slice());
     let sinks = sinks_of(alloc, files, ends.outputs.as_slice(), rate)?;
     let tables = tables_of(alloc, files, ends.outputs.as_slice(), rate)?;
-    run_opened(alloc, ends, start, sources, sinks, tables)
+    let opened = OpenFiles {
+        sources,
+        sinks,
+        tables,
+    };
+    run_opened(alloc, ends, start, opened, onlooker)
 }
 
-fn run_opened<'a, F: Computes, I: Source + Drop, O: Sink + Drop>(
-    alloc: Global,
-    ends: Ends<'a>,
-    start: OpenStream<F>,
+/// The files of a stream, opened: those of its inputs, of the outputs with a file alone, and of the others.
+#[derive(Drop)]
+struct OpenFiles<I, O> {
     sources: Vec<Begun<Resumed<I>>>,
     sinks: Vec<LaidOut<O>>,
     tables: Vec<LaidTable<O>>,
+}
+
+fn run_opened<'a, F: Computes, I: Source + Drop, O: Sink + Drop, L: Onlooker>(
+    alloc: Global,
+    ends: Ends<'a>,
+    start: OpenStream<F>,
+    opened: OpenFiles<I, O>,
+    onlooker: &L,
 ) -> Result<Streamed<'a, F, Resumed<I>, O>, StreamStop<'a>>
-    ensures done { IfOk result (λ s. (s.ends ≡ ends.entry) × Serves (family F.Kinds) start s.served.flow (new_inlets (left_of I.remaining) (resumed_has_failed I.has_failed) start.network start.inputs (map laid_source sources.items)) s.served.inlets.items (new_outs O.seen start.outputs sinks.items tables.items) (outs s.served.outlets.items s.served.tables.items) s.served.finish) }
+    ensures done { IfOk result (λ s. (s.ends ≡ ends.entry) × Serves (family F.Kinds) start s.served.flow (new_inlets (left_of I.remaining) (resumed_has_failed I.has_failed) start.network start.inputs (map laid_source opened.sources.items)) s.served.inlets.items (new_outs O.seen start.outputs opened.sinks.items opened.tables.items) (outs s.served.outlets.items s.served.tables.items) s.served.finish) }
     ensures stop { IfErr result (IsUnfit ends.entry) }
 {
+    let OpenFiles {
+        sources,
+        sinks,
+        tables,
+    } = opened;
     let Ok(sources) = laid_out(alloc, sources) else {
         return Err(StreamStop::Asked(Stop::Memory));
     };
-    match serve(alloc, start, sources, sinks, tables) {
+    let laid = LaidEnds {
+        sources,
+        sinks,
+        tables,
+    };
+    match serve(alloc, start, laid, onlooker) {
         Ok(served) => Ok(Streamed { ends, served }),
         Err(_) => Err(StreamStop::Asked(Stop::Memory)),
     }

@@ -40,9 +40,10 @@ pub record Want : Type 0 where
   pub formats : List (List ℕ)
   pub unsigned : List (List ℕ)
   pub is_quiet : Bool
+  pub is_json : Bool
 
 abbrev pub want_of : Wanted → Want
-want_of wanted = record { file = wanted.file.now; workers = wanted.workers; budget = wanted.budget; show = map (λ s. s.now) wanted.show.now; formats = map (λ s. s.now) wanted.formats.now; unsigned = map (λ s. s.now) wanted.unsigned.now; is_quiet = wanted.is_quiet }
+want_of wanted = record { file = wanted.file.now; workers = wanted.workers; budget = wanted.budget; show = map (λ s. s.now) wanted.show.now; formats = map (λ s. s.now) wanted.formats.now; unsigned = map (λ s. s.now) wanted.unsigned.now; is_quiet = wanted.is_quiet; is_json = wanted.is_json }
 
 -- a report goes to standard output, unless the command is quiet, or a stream goes there
 abbrev pub is_told : Bool → List Pair → Bool

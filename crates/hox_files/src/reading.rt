@@ -21,7 +21,8 @@ use std::alloc::{AllocError, Global};
 use std::io;
 
 /// What a command wants: the description's file, the number of workers, the budget that overrides the description's,
-/// the channels to show, the formats of files, the unsigned channels, and whether to print only streams.
+/// the channels to show, the formats of files, the unsigned channels, whether to print only streams, and
+/// whether the report is JSON.
 #[derive(Clone, Copy, Debug)]
 pub struct Wanted<'a, 'b> {
     pub file: &'a str,
@@ -31,6 +32,7 @@ pub struct Wanted<'a, 'b> {
     pub formats: &'b [&'a str],
     pub unsigned: &'b [&'a str],
     pub is_quiet: bool,
+    pub is_json: bool,
 }
 
 /// Why reading a file failed: the system's reason; more than 64 MiB; or out of memory.

@@ -4,12 +4,12 @@ use Rattle.kpn_model.specs.Network.{Network}
 use Rattle.kpn_model.specs.declared.limits.TheConstants.{LONGEST_TEXT}
 use Rattle.kpn_sketch.specs.declared.fault.NetFault.{NetFault}
 use Rattle.kpn_sketch.specs.declared.sketch.Sketch.{Sketch}
-use Rattle.kpn_sketch.specs.Description.{Describes}
+use Rattle.kpn_sketch.specs.Description.{delayed_of}
 use Rattle.kpn_net.specs.Sketched.{net_of}
 use Rattle.kpn_front.specs.Loading.{IsWhole}
 use Rattle.kpn_front.proofs.Loaded.{loads_from}
 use Rattle.kpn_flow.specs.Flows.{FlowView}
-use Rattle.hox_network.specs.Ports.{as_meant}
+use Rattle.hox_network.specs.Meant.{as_meant}
 use Rattle.hox_stream.specs.Exits.{with_exits}
 use Rattle.hox_stream.specs.Starts.{IsStarted, IsStreamFault, IsNoNetwork}
 use Rattle.hox_stream.specs.declared.starting.StreamFault.{StreamFault}
@@ -29,7 +29,7 @@ module _ (text : List ℕ) (fed drained : List (List ℕ)) (sketch : Sketch) (re
 
   pub unopened : (fault : StreamFault) → IsWhole false text → IsStreamFault flow_kinds (net sketch) (IsNoNetwork flow_named flow_ports (with_exits drained sketch)) fed drained fault → IsUnopened text fed drained fault
   unopened (Description fault) whole e =
-      loads_from flow_named flow_ports (flow_sketch text drained) false text read.0 (Err fault) whole read.1 tt (subst (λ x. IsNoNetwork flow_named flow_ports (with_exits drained x) fault) read.2 e)
+      loads_from flow_named flow_ports delayed_of (flow_sketch text drained) false text read.0 (Err fault) whole read.1 tt (subst (λ x. IsNoNetwork flow_named flow_ports (with_exits drained x) fault) read.2 e)
   unopened (Input fault) whole e = (read.0, read.1, subst (λ x. IsStreamFault flow_kinds (net x) (λ _. ⊥) fed drained (Input fault)) read.2 e)
   unopened (Output fault) whole e = (read.0, read.1, subst (λ x. IsStreamFault flow_kinds (net x) (λ _. ⊥) fed drained (Output fault)) read.2 e)
   unopened Twice whole e = (read.0, read.1, subst (λ x. IsStreamFault flow_kinds (net x) (λ _. ⊥) fed drained Twice) read.2 e)

@@ -2,15 +2,16 @@
 use Rattle.std.specs.Prelude.{◌≡◌, ◌⊎◌, ℕ, List, Option, Err, false, IsUtf8}
 use Rattle.kpn_model.specs.declared.kinds.Card.{Card}
 use Rattle.kpn_model.specs.declared.kinds.Signature.{Signature}
+use Rattle.kpn_sketch.specs.declared.sketch.Delayed.{Delayed}
 use Rattle.kpn_sketch.specs.declared.sketch.Sketch.{Sketch}
-use Rattle.kpn_sketch.specs.Description.{Describes}
+use Rattle.kpn_sketch.specs.Description.{DescribesDelayed, delayed_of}
 use Rattle.kpn_net.specs.Sketched.{net_of}
 use Rattle.kpn_standard.specs.Signatures.{named as standard_named, signature as standard_ports}
 use Rattle.kpn_signals.specs.Signatures.{number_named as signal_named, ports as signal_ports}
 use Rattle.kpn_compute.specs.Both.{both_named, both_ports}
 use Rattle.kpn_flow.specs.Flows.{FlowView}
 use Rattle.kpn_front.specs.Loading.{LoadsChanged}
-use Rattle.hox_network.specs.Ports.{as_meant}
+use Rattle.hox_network.specs.Meant.{as_meant}
 use Rattle.hox_stream.specs.Exits.{exit_named, exit_ports, with_exits}
 use Rattle.hox_stream.specs.Starts.{IsStarted, IsStreamFault}
 use Rattle.hox_stream.specs.declared.starting.StreamFault.{StreamFault}
@@ -38,17 +39,17 @@ abbrev pub flow_ports : Card → Option Signature
 flow_ports = both_ports all_ports exit_ports
 
 -- the completed sketch, in which processes that only read a drained channel stop at once
-abbrev pub flow_sketch : List ℕ → List (List ℕ) → Sketch → Sketch
+abbrev pub flow_sketch : List ℕ → List (List ℕ) → Delayed → Sketch
 flow_sketch text drained described = with_exits drained (as_meant all_named all_ports text described)
 
 -- a text describes this sketch, once completed
 abbrev pub IsReadAs : List ℕ → Sketch → Type 0
-IsReadAs text sketch = (described : Sketch) × Describes text described × (sketch ≡ as_meant all_named all_ports text described)
+IsReadAs text sketch = (described : Delayed) × DescribesDelayed text described × (sketch ≡ as_meant all_named all_ports text described)
 
 -- a flow at the start of the text's network; each input or output has its name's place
 pub record OpensBetween (text : List ℕ) (fed drained : List (List ℕ)) (start : FlowView) : Type 0 where
-  pub described : Sketch
-  pub describes : Describes text described
+  pub described : Delayed
+  pub describes : DescribesDelayed text described
   pub started : IsStarted flow_kinds (net_of flow_named (flow_sketch text drained described)) fed drained start
 
 -- the names are given as two texts
@@ -62,11 +63,11 @@ pub record Opens (text inputs outputs : List ℕ) (start : FlowView) : Type 0 wh
 -- the text's network can't be fed or drained at these channels
 abbrev pub IsEndFault : List ℕ → List (List ℕ) → List (List ℕ) → StreamFault → Type 0
 IsEndFault text fed drained fault =
-    (described : Sketch) × Describes text described × IsStreamFault flow_kinds (net_of flow_named (flow_sketch text drained described)) (λ _. ⊥) fed drained fault
+    (described : Delayed) × DescribesDelayed text described × IsStreamFault flow_kinds (net_of flow_named (flow_sketch text drained described)) (λ _. ⊥) fed drained fault
 
 -- why no flow is opened between channels of these names
 abbrev pub IsUnopened : List ℕ → List (List ℕ) → List (List ℕ) → StreamFault → Type 0
-IsUnopened text fed drained (Description fault) = LoadsChanged (flow_sketch text drained) flow_named flow_ports false text (Err fault)
+IsUnopened text fed drained (Description fault) = LoadsChanged delayed_of (flow_sketch text drained) flow_named flow_ports false text (Err fault)
 IsUnopened text fed drained Memory = Unit {0}
 IsUnopened text fed drained (Input fault) = IsEndFault text fed drained (Input fault)
 IsUnopened text fed drained (Output fault) = IsEndFault text fed drained (Output fault)

@@ -1,6 +1,6 @@
 //! Opens a session.
 ghost use Rattle.std.specs.Prelude.{◌≡◌, IfOk, IfErr};
-ghost use Rattle.kpn_sketch.specs.Description.{IsReadFault};
+ghost use Rattle.kpn_sketch.specs.Description.{IsDelayedFault};
 ghost use Rattle.hox_handle.specs.Opening.{answer_of, answer_of_stream, IsOpenFault, IsReadAs, IsUnopened, Opens, OpensBetween};
 
 use crate::answers::Answer;
@@ -10,7 +10,7 @@ use hox_network::{AllKinds, sketch_by_ports};
 use hox_stream::{NameFault, StreamFault, open_stream};
 use kpn_model::Text;
 use kpn_model::limits::LONGEST_TEXT;
-use kpn_net::{NetFault, Sketch, read_sketch};
+use kpn_net::{NetFault, Sketch, read_delayed};
 use std::alloc::Global;
 
 /// Why a session was not opened.
@@ -106,9 +106,9 @@ fn open_between(
 /// The sketch of a text, completed by `sketch_by_ports`.
 fn sketch_of(alloc: Global, text: &[u8]) -> Result<Sketch, NetFault>
     ensures ok { IfOk result (IsReadAs text.now) }
-    ensures fault { IfErr result (IsReadFault text.now) }
+    ensures fault { IfErr result (IsDelayedFault text.now) }
 {
-    let _read = read_sketch(alloc, text)?;
+    let _read = read_delayed(alloc, text)?;
     match sketch_by_ports::<AllKinds>(alloc, text) {
         Some(sketch) => Ok(sketch),
         None => Err(NetFault::Memory),

@@ -187,7 +187,7 @@ fn openings_are_refused(rt: HostRuntime) {
         38
     );
     let said =
-        "output now: process sum reads that channel; add a copy that feeds a drain, and name its channel";
+        "output now: process sum reads that channel; let another channel lead from its output to a drain, and name that";
     assert_eq!(rt;
         refusal(&rt, alloc, SUMS, b"x", b"now", Some(said)).number(),
         39

@@ -5,7 +5,7 @@ use crate::names::names_in;
 use crate::opening::OpenFault;
 use hox_network::{AllKinds, KINDS, sketch_by_ports};
 use hox_stream::{NameFault, StreamFault};
-use kpn_message::{message_of, message_of_sketch};
+use kpn_message::{message_of_delayed, message_of_sketch};
 use kpn_net::NetFault;
 use std::alloc::{AllocError, Global};
 use std::fmt::Write;
@@ -27,7 +27,7 @@ pub fn message_of_fault(alloc: Global, text: &[u8], fault: NetFault) -> Option<S
     }
     match sketch_by_ports::<AllKinds>(alloc, text) {
         Some(sketch) => message_of_sketch::<AllKinds>(alloc, &sketch, fault, KINDS),
-        None => message_of::<AllKinds>(alloc, text, fault, KINDS),
+        None => message_of_delayed(alloc, text),
     }
 }
 
@@ -70,7 +70,7 @@ const INPUT: EndWords = EndWords {
 const OUTPUT: EndWords = EndWords {
     end: "output",
     does: "reads that channel",
-    remedy: "add a copy that feeds a drain, and name its channel",
+    remedy: "let another channel lead from its output to a drain, and name that",
 };
 
 fn message_of_end(

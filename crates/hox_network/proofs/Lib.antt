@@ -1,7 +1,9 @@
 pub mod Copied
+pub mod Delaying
 pub mod Held
 pub mod Budgets
 pub mod Said
 pub mod FilesSaid
 pub mod Meant
 pub mod Served
+pub mod FanOut

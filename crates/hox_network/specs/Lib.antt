@@ -1,6 +1,9 @@
 pub mod Budgets
 pub mod Signs
+pub mod Copies
 pub mod Ports
+pub mod Delays
+pub mod Meant
 pub mod Presets
 pub mod Statuses
 pub mod Preparing

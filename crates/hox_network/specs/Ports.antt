@@ -1,4 +1,4 @@
--- The sorts of channels by their ports, and the completed sketch.
+-- The sorts of channels by their ports.
 use Rattle.std.specs.Prelude.{ℕ, List, Option, Some, map}
 use Rattle.kpn_model.specs.declared.token.Sort.{Sort}
 use Rattle.kpn_model.specs.declared.token.Sort.TheVariants.{Words, Flags}
@@ -7,8 +7,6 @@ use Rattle.kpn_model.specs.declared.kinds.Signature.{Signature}
 use Rattle.kpn_sketch.specs.declared.sketch.ChannelSketch.{ChannelSketch}
 use Rattle.kpn_sketch.specs.declared.sketch.Sketch.{Sketch}
 use Rattle.kpn_net.specs.Faults.{sketched_out_sort, sketched_in_sort}
-use Rattle.hox_network.specs.Budgets.{with_greatest_budget}
-use Rattle.hox_network.specs.Signs.{with_signs}
 
 -- the sort of two ports if they agree, else the given one
 abbrev pub agreed : Option Sort → Option Sort → Sort → Sort
@@ -17,13 +15,12 @@ agreed (Some Flags) (Some Flags) sort = Flags
 agreed _ _ sort = sort
 
 module _ (named : List ℕ → Option (ℕ × ℕ)) (signature : Card → Option Signature) where
+  abbrev pub sort_by_ports : Sketch → ChannelSketch → Sort
+  sort_by_ports sketch c = agreed (sketched_out_sort named signature sketch c) (sketched_in_sort named signature sketch c) c.sort
+
   abbrev pub channel_by_ports : Sketch → ChannelSketch → ChannelSketch
-  channel_by_ports sketch c = record c { sort = agreed (sketched_out_sort named signature sketch c) (sketched_in_sort named signature sketch c) c.sort }
+  channel_by_ports sketch c = record c { sort = sort_by_ports sketch c }
 
   -- a sketch whose channels have the sorts of their ports, where these agree
   abbrev pub by_ports : Sketch → Sketch
   by_ports sketch = record sketch { channels = map (channel_by_ports sketch) sketch.channels }
-
-  -- the completed sketch: the default budget, then signed kinds and start tokens, then the sorts of ports
-  abbrev pub as_meant : List ℕ → Sketch → Sketch
-  as_meant text sketch = by_ports (with_signs named signature (with_greatest_budget text sketch))

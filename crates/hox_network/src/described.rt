@@ -1,29 +1,36 @@
 //! Reads descriptions that may omit sorts and the budget, and may have negative arguments and start tokens.
 ghost use Rattle.std.specs.Prelude.{◌≡◌, ◌≤◌, ◌+◌, false, true, IfOk, IfErr, IfSome, IsUtf8, length, map};
-ghost use Rattle.kpn_sketch.specs.declared.sketch.Sketch.{Sketch as SketchV};
-ghost use Rattle.kpn_sketch.specs.Description.{Describes};
+ghost use Rattle.kpn_sketch.specs.declared.sketch.Delayed.{Delayed as DelayedV};
+ghost use Rattle.kpn_sketch.specs.Description.{DescribesDelayed, delayed_of};
 ghost use Rattle.kpn_front.specs.Loading.{ConsumesAtMost, LoadsChanged, longest, without_text};
 ghost use Rattle.hox_network.specs.Budgets.{with_greatest_budget};
-ghost use Rattle.hox_network.specs.Ports.{agreed, as_meant, by_ports, channel_by_ports};
+ghost use Rattle.hox_network.specs.Copies.{with_copies};
+ghost use Rattle.hox_network.specs.Delays.{with_delays};
+ghost use Rattle.hox_network.specs.Meant.{as_meant};
+ghost use Rattle.hox_network.specs.Ports.{by_ports, channel_by_ports};
 ghost use Rattle.hox_network.specs.Signs.{with_signs};
 
 use crate::budget::with_greatest_budget;
+use crate::copies::with_copies;
+use crate::delays::with_delays;
 use crate::signs::with_signs;
+use crate::sorts::sort_by_ports;
 use kpn_front::{Refused, Source, read_text};
-use kpn_model::{Kinds, Listed, Sort};
-use kpn_net::faults::{in_sort, out_sort};
-use kpn_net::{ChannelSketch, Check, Net, NetFault, Sketch, read_sketch};
+use kpn_model::{Kinds, Listed};
+use kpn_net::{ChannelSketch, Check, Delayed, Net, NetFault, Sketch, read_delayed};
 use std::alloc::{AllocError, Global};
 
 /// Reads a description to its end, and makes its network. A channel gets the sort of its two ports if they
 /// agree, whatever the description says. A process with a negative first argument gets the kind `KIND,
 /// signed` if that exists and takes the arguments: each argument -1 - n becomes n, and one more argument
-/// counts how many of the first two are negative. A negative start token is read as two's complement. Without
-/// a stated budget, the network gets the greatest of its version. Reads at most 1,048,577 bytes.
+/// counts how many of the first two are negative. A negative start token is read as two's complement. A channel with a
+/// `delay` holds so many zeros first, or `false`, and has room for all that it holds at first. If several
+/// channels leave one output, copies stand between: each channel gets every token. Without a stated budget, the
+/// network gets the greatest of its version. Reads at most 1,048,577 bytes.
 ///
 /// Errors: those of `kpn_front::load_or_refuse`, with the text.
 pub fn load_by_ports<K: Kinds, S: Source>(alloc: Global, source: &mut S) -> Result<Net<K>, Refused>
-    ensures loads { S.has_failed source.old ≡ false → IfSome (S.remaining source.old) (λ text. LoadsChanged (as_meant K.named K.signature text) K.named K.signature (S.has_failed source.new) text (without_text result)) }
+    ensures loads { S.has_failed source.old ≡ false → IfSome (S.remaining source.old) (λ text. LoadsChanged delayed_of (as_meant K.named K.signature text) K.named K.signature (S.has_failed source.new) text (without_text result)) }
     ensures failed { S.has_failed source.old ≡ false → S.has_failed source.new ≡ true → without_text result ≡ Err NetFault.Input }
     ensures taken { ConsumesAtMost (longest + 1) (S.remaining source.old) (S.remaining source.new) }
 {
@@ -42,46 +49,49 @@ pub fn load_by_ports<K: Kinds, S: Source>(alloc: Global, source: &mut S) -> Resu
 
 fn net_of_text<K: Kinds>(alloc: Global, text: &[u8]) -> Result<Net<K>, NetFault>
     requires { length text.now ≤ longest }
-    ensures { LoadsChanged (as_meant K.named K.signature text.now) K.named K.signature false text.now result }
+    ensures { LoadsChanged delayed_of (as_meant K.named K.signature text.now) K.named K.signature false text.now result }
 {
-    let sketch = read_sketch(alloc, text)?;
-    let meant = as_meant::<K>(alloc, text, sketch)?;
+    let described = read_delayed(alloc, text)?;
+    let meant = as_meant::<K>(alloc, text, described)?;
     Net::check(alloc, &meant)
 }
 
 /// Returns the sketch of a text as `load_by_ports` completes it; `None` if the text describes none, or out of memory.
 pub fn sketch_by_ports<K: Kinds>(alloc: Global, text: &[u8]) -> Option<Sketch>
-    ensures { IfSome result (λ sketch. (described : SketchV) × Describes text.now described × (sketch ≡ as_meant K.named K.signature text.now described)) }
+    ensures { IfSome result (λ sketch. (described : DelayedV) × DescribesDelayed text.now described × (sketch ≡ as_meant K.named K.signature text.now described)) }
 {
-    match read_sketch(alloc, text) {
-        Ok(sketch) => as_meant::<K>(alloc, text, sketch).ok(),
+    match read_delayed(alloc, text) {
+        Ok(described) => as_meant::<K>(alloc, text, described).ok(),
         Err(_) => None,
     }
 }
 
 /// Completes the sketch of a text. Errors: out of memory.
-fn as_meant<K: Kinds>(alloc: Global, text: &[u8], sketch: Sketch) -> Result<Sketch, NetFault>
+fn as_meant<K: Kinds>(alloc: Global, text: &[u8], described: Delayed) -> Result<Sketch, NetFault>
     requires { IsUtf8 text.now }
-    ensures ok { IfOk result (λ meant. meant ≡ as_meant K.named K.signature text.now sketch) }
+    ensures ok { IfOk result (λ meant. meant ≡ as_meant K.named K.signature text.now described) }
     ensures memory { IfErr result (λ e. e ≡ NetFault.Memory) }
 {
-    match signed_with_budget::<K>(alloc, text, sketch) {
-        Ok(signed) => sorted_by_ports::<K>(alloc, signed),
+    match written_out::<K>(alloc, text, described) {
+        Ok(written) => sorted_by_ports::<K>(alloc, written),
         Err(_) => Err(NetFault::Memory),
     }
 }
 
-/// Sets the default budget, the signed kinds and the signed start tokens.
-fn signed_with_budget<K: Kinds>(
+/// Sets the default budget, the signed kinds and start tokens and the delays, and adds the copies.
+fn written_out<K: Kinds>(
     alloc: Global,
     text: &[u8],
-    sketch: Sketch,
+    described: Delayed,
 ) -> Result<Sketch, AllocError>
     requires { IsUtf8 text.now }
-    ensures { IfOk result (λ signed. signed ≡ with_signs K.named K.signature (with_greatest_budget text.now sketch)) }
+    ensures { IfOk result (λ written. written ≡ with_copies K.named K.signature (with_delays K.named K.signature described.delays (with_signs K.named K.signature (with_greatest_budget text.now described.sketch)))) }
 {
+    let Delayed { sketch, delays } = described;
     let budgeted = with_greatest_budget(alloc, text, sketch)?;
-    with_signs::<K>(alloc, budgeted)
+    let signed = with_signs::<K>(alloc, budgeted)?;
+    let delayed = with_delays::<K>(alloc, signed, delays.as_slice())?;
+    with_copies::<K>(alloc, delayed)
 }
 
 /// Gives the channels the sorts of their ports. Errors: out of memory.
@@ -130,18 +140,6 @@ fn channels_by_ports<K: Kinds>(
 fn channel_by_ports<K: Kinds>(sketch: &Sketch, channel: ChannelSketch) -> ChannelSketch
     ensures { result ≡ channel_by_ports K.named K.signature sketch.now channel }
 {
-    let out = out_sort::<K>(sketch, &channel);
-    let sort = agreed(out, in_sort::<K>(sketch, &channel), channel.sort);
+    let sort = sort_by_ports::<K>(sketch, &channel);
     ChannelSketch { sort, ..channel }
-}
-
-/// Returns the sort of two ports if they agree, else `sort`.
-fn agreed(out: Option<Sort>, input: Option<Sort>, sort: Sort) -> Sort
-    ensures { result ≡ agreed out input sort }
-{
-    match (out, input) {
-        (Some(Sort::Words), Some(Sort::Words)) => Sort::Words,
-        (Some(Sort::Flags), Some(Sort::Flags)) => Sort::Flags,
-        _ => sort,
-    }
 }

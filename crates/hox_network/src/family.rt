@@ -8,6 +8,7 @@ pub type AllKinds = Both<Standard, Signals>;
 
 /// The names of all kinds, as a message lists them.
 pub const KINDS: &str =
-    "add, and, clip, constant, copy, count, count_up, decimate, delay, divides, \
-drain, drain_flags, equal, hold, input, input_flags, left, less, low_pass, merge, mul, not, or, prefix, \
-repeat, scale, select, shift, sink, sub, switch, take and weave";
+    "abs, add, and, average, clip, constant, copy, copy_flags, count, count_up, counter, decimate, delay, \
+difference, div, divides, drain, drain_flags, edge, equal, gain, gate, hold, input, input_flags, left, \
+less, low_pass, max, merge, min, mod, mul, noise, not, offset, or, prefix, repeat, scale, select, shift, \
+sink, sub, sum, switch, take and weave";

@@ -3,6 +3,8 @@
 #![tactic(auto)]
 
 mod budget;
+mod copies;
+mod delays;
 mod described;
 mod family;
 mod names;
@@ -12,6 +14,7 @@ mod presets;
 mod reading;
 mod request;
 mod signs;
+mod sorts;
 
 pub use described::{load_by_ports, sketch_by_ports};
 pub use family::{AllKinds, KINDS};

@@ -1,3 +1,4 @@
+pub mod Dried
 pub mod Cutting
 pub mod ToldRuns
 pub mod Progressing

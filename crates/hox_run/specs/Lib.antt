@@ -1,4 +1,5 @@
 pub mod Cuts
+pub mod Judging
 pub mod Notes
 pub mod Telling
 pub mod Serving

@@ -4,10 +4,10 @@ use Rattle.std.specs.List.{count_by, list_any}
 use Rattle.kpn_model.specs.declared.history.Deed.TheVariants.{Took, Put}
 use Rattle.kpn_model.specs.declared.history.Entry.{Entry}
 use Rattle.kpn_model.specs.declared.history.Entry.TheVariants.{Did}
-use Rattle.kpn_model.specs.declared.history.End.{End}
-use Rattle.kpn_model.specs.declared.history.End.TheVariants.{Budget}
 use Rattle.kpn_model.specs.declared.history.Place.{Place}
 use Rattle.kpn_model.specs.declared.history.Place.TheVariants.{Stopped}
+use Rattle.kpn_model.specs.declared.verdict.Verdict.{Verdict}
+use Rattle.kpn_model.specs.declared.verdict.Verdict.TheVariants.{Cut}
 use Rattle.kpn_model.specs.NamesAndLines.{channel_name}
 use Rattle.kpn_model.specs.Network.{Network, channel_of}
 use Rattle.hox_run.specs.declared.notes.Notes.{Notes}
@@ -32,8 +32,8 @@ abbrev pub is_place_of_stopped : Option Place → Bool
 is_place_of_stopped (Some Stopped) = true
 is_place_of_stopped _ = false
 
-abbrev pub spent : Network → End → Option ℕ
-spent net Budget = Some net.budget
+abbrev pub spent : Network → Verdict → Option ℕ
+spent net Cut = Some net.budget
 spent net _ = None
 
 module _ (net : Network) (E : List Entry) where
@@ -50,7 +50,7 @@ module _ (net : Network) (E : List Entry) where
   sources_upto left zero = []
   sources_upto left (suc n) = sources_upto left n ++ (if is_source left n then source_of n ∷ [] else [])
 
--- what a run with this end left unused
-pub record AreNotes (net : Network) (cause : End) (E : List Entry) (left : ℕ → Option Place) (notes : Notes) : Type 0 where
+-- what a run with this verdict left unused
+pub record AreNotes (net : Network) (verdict : Verdict) (E : List Entry) (left : ℕ → Option Place) (notes : Notes) : Type 0 where
   pub sources : notes.sources.items ≡ sources_upto net E left (length net.channels)
-  pub budget : notes.budget ≡ spent net cause
+  pub budget : notes.budget ≡ spent net verdict

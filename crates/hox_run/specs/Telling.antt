@@ -1,10 +1,10 @@
 -- The result of a run.
 use Rattle.std.specs.Prelude.{◌≡◌, ℕ, Bool, true, false, if◌then◌else◌, List, [], ◌++◌, is_some, length, map, not, take, unwrap_or, Option, None, string_bytes}
-use Rattle.std.specs.List.{list_any, position}
+use Rattle.std.specs.List.{All, list_any, position}
 use Rattle.kpn_model.specs.declared.token.Token.{Token}
 use Rattle.kpn_model.specs.declared.history.Entry.{Entry}
 use Rattle.kpn_model.specs.declared.history.End.{End}
-use Rattle.kpn_model.specs.declared.history.End.TheVariants.{Budget}
+use Rattle.kpn_model.specs.declared.history.End.TheVariants.{Budget, Ceiling}
 use Rattle.kpn_model.specs.declared.history.Place.{Place}
 use Rattle.kpn_model.specs.declared.verdict.Verdict.{Verdict}
 use Rattle.kpn_model.specs.declared.verdict.Verdict.TheVariants.{Finished, RanDry, Cycle, Cut, Full, Memory}
@@ -13,10 +13,10 @@ use Rattle.kpn_model.specs.Semantics.{State, wants}
 use Rattle.kpn_model.specs.History.{each_process, place_of, stream}
 use Rattle.kpn_model.specs.Determinacy.{IsRun, IsFinal}
 use Rattle.kpn_model.specs.Endings.{MayEnd, has_report}
-use Rattle.kpn_model.specs.Verdicts.{IsVerdict}
 use Rattle.kpn_laws.specs.RoomOfRun.{TakesLeastRoom}
 use Rattle.kpn_laws.specs.StreamsOfRun.{ApproachLeastSolution}
 use Rattle.kpn_run.specs.Runs.{IsComparable}
+use Rattle.kpn_dry.specs.Dry.{IsWhole}
 use Rattle.kpn_report.specs.Text.{report_text}
 use Rattle.kpn_verdict.specs.VerdictText.{verdict_line}
 use Rattle.kpn_tokens.specs.declared.layouts.Decimals.{Decimals}
@@ -28,6 +28,7 @@ use Rattle.hox_run.specs.declared.shown.ChannelAs.{ChannelAs}
 use Rattle.hox_run.specs.declared.files.StreamFile.{StreamFile}
 use Rattle.hox_run.specs.declared.telling.Told.{Told}
 use Rattle.hox_run.specs.Cuts.{Leaves, before_verdict, cut_text}
+use Rattle.hox_run.specs.Judging.{AreDry, IsJudged, active_part}
 use Rattle.hox_run.specs.Notes.{AreNotes}
 
 abbrev pub status_of_verdict : Verdict → Status
@@ -59,6 +60,12 @@ fitted layout tokens =
 abbrev pub stream_file : Network → List Entry → ChannelAs Layout → StreamFile
 stream_file net E c = fitted c.written (stream net E c.channel)
 
+-- the run could go on
+abbrev pub is_early : End → Bool
+is_early Ceiling = true
+is_early Budget = true
+is_early _ = false
+
 -- the exit status for a verdict, unless a token does not fit a file
 abbrev pub status_with : Verdict → List StreamFile → Status
 status_with verdict files = if list_any (λ (f : StreamFile). f.is_misfit) files then Refused else status_of_verdict verdict
@@ -73,19 +80,25 @@ module _ (kinds : Family) (net : Network) where
   Follows show Budget E M text = (left : ℕ → Option Place) × Leaves kinds net M left × (text ≡ cut_text net E left show)
   Follows show cause E M text = text ≡ []
 
+  -- what was written of these channels is all: no longer run, and no other run from any starting capacities, has more
+  abbrev pub AreWhole : {W : Type 0} → List Entry → List (ChannelAs W) → Type 0
+  AreWhole E channels = All (λ c. IsWhole kinds net E c.channel) channels
+
   module _ (show : List (ChannelAs Decimals)) (outputs : List (ChannelAs Layout)) (told : Told) where
     -- this result is that of the run E to M, with this end and verdict
     pub record TellsOf (cause : End) (E : List Entry) (M : State) (verdict : Verdict) : Type 0 where
-      pub judged : IsVerdict net (places_in M) cause verdict
+      pub dry : ℕ → Bool
+      pub are_dry : AreDry kinds net cause M dry
+      pub judged : IsJudged net dry show outputs (places_in M) cause verdict
       pub status_is : told.status ≡ status_with verdict told.outputs.items
       pub after : List ℕ
       pub follows : Follows show cause E M after
-      pub report_is : string_bytes told.report ≡ report_text kinds net cause E M None ++ before_verdict net cause E show ++ verdict_line net (places_in M) verdict ++ after
+      pub report_is : string_bytes told.report ≡ report_text kinds net cause E M None ++ before_verdict net cause E show ++ verdict_line net (places_in M) verdict ++ active_part net dry cause verdict ++ after
       pub outputs_are : told.outputs.items ≡ map (stream_file net E) outputs
 
     -- a run from the start ended for a justified cause. It took no more room than needed; its streams
     -- approach the least solution and are prefix-comparable with those of any other run. The result is that
-    -- of this run; if it ended by itself, it is also that of each run that is over, whatever the schedule
+    -- of this run. If it ran dry at the ceiling or when it was cut, its wanted streams are whole; if it ended by itself, it is also that of each run that is over, whatever the schedule
     pub record TellsRun : Type 0 where
       pub history : List Entry
       pub state : State
@@ -99,5 +112,6 @@ module _ (kinds : Family) (net : Network) where
       pub tells : TellsOf cause history state verdict
       pub left : ℕ → Option Place
       pub leaves : Leaves kinds net state left
-      pub notes : AreNotes net cause history left told.notes
+      pub notes : AreNotes net verdict history left told.notes
+      pub whole : verdict ≡ RanDry → is_early cause ≡ true → AreWhole history show × AreWhole history outputs
       pub settled : has_report cause ≡ true → (F : List Entry) (N : State) (b : End) → IsFinal kinds net F N b → TellsOf b F N verdict

@@ -4,6 +4,7 @@
 mod cut;
 mod ended;
 mod files;
+mod judging;
 mod notes;
 mod progress;
 mod running;

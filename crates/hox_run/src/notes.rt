@@ -8,7 +8,7 @@ ghost use Rattle.hox_run.specs.Notes.{AreNotes, has_put, is_place_of_stopped, is
 
 use crate::cut::left_at;
 use crate::ended::Ended;
-use kpn_model::{Deed, End, Entry, Kinds, Place, Text};
+use kpn_model::{Deed, Entry, Kinds, Place, Text, Verdict};
 use kpn_network::Net;
 use kpn_report::Entries;
 use kpn_state::Standing;
@@ -22,7 +22,7 @@ pub struct SourceNote {
     pub unread: usize,
 }
 
-/// What a run left unused: its sources, in the order of channels; and its budget, if that was spent.
+/// What a run left unused: its sources, in the order of channels; and its budget, if that cut it short.
 #[derive(Drop)]
 pub struct Notes {
     pub sources: Vec<SourceNote>,
@@ -33,8 +33,9 @@ pub struct Notes {
 pub(crate) fn notes_of<K: Kinds, E: Entries>(
     alloc: Global,
     run: &Ended<'_, K, E>,
+    verdict: Verdict,
 ) -> Result<Notes, AllocError>
-    ensures { IfOk result (AreNotes run.now.net.now run.now.end (E.entries run.now.history.now) (left_at run.now.standings.now run.now.places.now)) }
+    ensures { IfOk result (AreNotes run.now.net.now verdict (E.entries run.now.history.now) (left_at run.now.standings.now run.now.places.now)) }
 {
     let mut sources = Vec::new(alloc);
     for c in 0..run.net.channels() {
@@ -44,16 +45,16 @@ pub(crate) fn notes_of<K: Kinds, E: Entries>(
     }
     Ok(Notes {
         sources,
-        budget: spent(run.net, run.end),
+        budget: spent(run.net, verdict),
     })
 }
 
-fn spent<K: Kinds>(net: &Net<K>, end: End) -> Option<u64>
-    ensures { result ≡ spent net.now end }
+fn spent<K: Kinds>(net: &Net<K>, verdict: Verdict) -> Option<u64>
+    ensures { result ≡ spent net.now verdict }
 {
-    match end {
-        End::Budget => Some(net.budget()),
-        End::Terminated | End::Deadlock | End::Ceiling | End::Memory => None,
+    match verdict {
+        Verdict::Cut => Some(net.budget()),
+        _ => None,
     }
 }
 

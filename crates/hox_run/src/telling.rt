@@ -1,30 +1,22 @@
 //! The result of a run that ended.
-ghost use Rattle.std.specs.Prelude.{◌≡◌, ◌<◌, ◌++◌, ℕ, true, None, IfOk, IsSome, OnOk, string_bytes};
+ghost use Rattle.std.specs.Prelude.{◌≡◌, IfOk, IsSome};
 ghost use Rattle.std.specs.List.{All, list_any};
-ghost use Rattle.kpn_model.specs.Network.{Family};
 ghost use Rattle.kpn_model.specs.Families.{family};
-ghost use Rattle.kpn_model.specs.Semantics.{State};
-ghost use Rattle.kpn_model.specs.Endings.{has_report};
-ghost use Rattle.kpn_model.specs.Verdicts.{IsVerdict};
-ghost use Rattle.kpn_report.specs.Text.{report_text};
-ghost use Rattle.kpn_verdict.specs.VerdictText.{verdict_line};
-ghost use Rattle.hox_run.specs.Cuts.{IsWithin, after_verdict, before_verdict, left_at};
-ghost use Rattle.hox_run.specs.Telling.{TellsRun, places_in, status_of_verdict, status_with};
+ghost use Rattle.hox_run.specs.Cuts.{IsWithin};
+ghost use Rattle.hox_run.specs.Telling.{TellsRun, status_of_verdict, status_with};
 
-use crate::cut::push_after_verdict;
 use crate::ended::Ended;
 use crate::files::{StreamFile, stream_files};
+use crate::judging::judge;
 use crate::notes::{Notes, notes_of};
-use crate::shown::{ChannelAs, Wanted, push_before_verdict};
+use crate::shown::Wanted;
+use kpn_dry::dryness_of;
 use kpn_front::Status;
 use kpn_laws::{determinacy_of, least_room_of, least_solution_of};
 use kpn_machine::Chronicle;
-use kpn_model::{End, Kinds, Place, Verdict};
-use kpn_network::Net;
-use kpn_report::{Entries, places_of, text_of_entries};
-use kpn_state::{Keeper, Standing};
-use kpn_tokens::Decimals;
-use kpn_verdict::{verdict_of, verdict_text};
+use kpn_model::{Kinds, Verdict};
+use kpn_report::{Entries, places_of};
+use kpn_state::Keeper;
 use std::alloc::{AllocError, Global};
 
 /// The result of a run: its exit status, its report with the verdict, the files of the wanted streams, and what it
@@ -35,12 +27,6 @@ pub struct Told {
     pub report: String,
     pub outputs: Vec<StreamFile>,
     pub notes: Notes,
-}
-
-#[derive(Drop)]
-struct Judged {
-    verdict: Verdict,
-    report: String,
 }
 
 /// Returns the result of a run that ended, with these entries and the wanted streams. Errors: out of memory.
@@ -61,6 +47,7 @@ pub(crate) fn told_of<K: Kinds, H: Keeper, E: Entries>(
     determinacy_of::<K>();
     least_room_of::<K>();
     least_solution_of::<K>();
+    dryness_of::<K>();
     let net = chronicle.net();
     let standings = chronicle.standings();
     let places = places_of(alloc, net, standings)?;
@@ -71,56 +58,14 @@ pub(crate) fn told_of<K: Kinds, H: Keeper, E: Entries>(
         places: places.as_slice(),
         end,
     };
-    let judged = judge(alloc, &run, wanted.show)?;
+    let judged = judge(alloc, &run, wanted)?;
     let outputs = stream_files(alloc, net, history, wanted.outputs)?;
     Ok(Told {
         status: status_with(judged.verdict, outputs.as_slice()),
         report: judged.report,
         outputs,
-        notes: notes_of(alloc, &run)?,
+        notes: notes_of(alloc, &run, judged.verdict)?,
     })
-}
-
-fn judge<K: Kinds, E: Entries>(
-    alloc: Global,
-    run: &Ended<'_, K, E>,
-    show: &[ChannelAs<Decimals>],
-) -> Result<Judged, AllocError>
-    ensures verdict { IfOk result (λ judged. IsVerdict run.now.net.now run.now.places.now run.now.end judged.verdict) }
-    ensures report { IfOk result (λ judged. (kinds : Family) (M : State) → (has_report run.now.end ≡ true → run.now.places.now ≡ places_in kinds run.now.net.now M) → string_bytes judged.report ≡ report_text kinds run.now.net.now run.now.end (E.entries run.now.history.now) M None ++ before_verdict run.now.net.now run.now.end (E.entries run.now.history.now) show.now ++ verdict_line run.now.net.now run.now.places.now judged.verdict ++ after_verdict run.now.net.now run.now.end (E.entries run.now.history.now) (left_at run.now.standings.now run.now.places.now) show.now) }
-{
-    let verdict = verdict_of(run.net, run.places, run.end);
-    let mut report = text_of_entries(alloc, run.net, run.history, run.places, run.end, None)?;
-    push_judged(alloc, &mut report, run, show, verdict)?;
-    Ok(Judged { verdict, report })
-}
-
-/// Appends the streams, the line of the verdict, and what follows it.
-fn push_judged<K: Kinds, E: Entries>(
-    alloc: Global,
-    out: &mut String,
-    run: &Ended<'_, K, E>,
-    show: &[ChannelAs<Decimals>],
-    verdict: Verdict,
-) -> Result<(), AllocError>
-    ensures { OnOk result (string_bytes out.new ≡ string_bytes out.old ++ before_verdict run.now.net.now run.now.end (E.entries run.now.history.now) show.now ++ verdict_line run.now.net.now run.now.places.now verdict ++ after_verdict run.now.net.now run.now.end (E.entries run.now.history.now) (left_at run.now.standings.now run.now.places.now) show.now) }
-{
-    push_before_verdict(alloc, out, run, show)?;
-    push_line(alloc, out, run.net, run.places, verdict)?;
-    push_after_verdict(alloc, out, run, show)
-}
-
-fn push_line<K: Kinds>(
-    alloc: Global,
-    out: &mut String,
-    net: &Net<K>,
-    places: &[Place],
-    verdict: Verdict,
-) -> Result<(), AllocError>
-    ensures { OnOk result (string_bytes out.new ≡ string_bytes out.old ++ verdict_line net.now places.now verdict) }
-{
-    let line = verdict_text(alloc, net, places, verdict)?;
-    out.push_str(line.as_str())
 }
 
 /// Returns the exit status for a verdict, unless a token does not fit one of the files.

@@ -18,12 +18,14 @@ mod streaming;
 mod table;
 mod tabling;
 mod telling;
+mod watching;
 
 pub use cutting::{LONGEST_RECORD, Refusal};
 pub use exits::Exits;
 pub use finish::Finish;
 pub use inlet::Inlet;
 pub use outlet::Outlet;
-pub use serving::{LaidOut, LaidTable, Served, serve};
+pub use serving::{LaidEnds, LaidOut, LaidTable, Served, serve};
 pub use starting::{NameFault, OpenStream, StreamFault, open_stream};
 pub use table::{MOST_AHEAD, TableOutlet};
+pub use watching::{Fill, Moved, NoOnlooker, Onlooker};

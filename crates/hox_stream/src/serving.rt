@@ -13,6 +13,7 @@ use crate::starting::OpenStream;
 use crate::streaming::stream_out;
 use crate::table::TableOutlet;
 use crate::telling::Outs;
+use crate::watching::Onlooker;
 use kpn_compute::{CardBody, Computes};
 use kpn_flow::Flow;
 use kpn_front::{Sink, Source};
@@ -36,6 +37,15 @@ pub struct LaidTable<S> {
     pub columns: Vec<Decimals>,
 }
 
+/// The sources and sinks of a stream: the sources belong to the channels that are fed, in order; the sinks, and
+/// then the columns of the tables, to those that are drained.
+#[derive(Drop)]
+pub struct LaidEnds<I, O> {
+    pub sources: Vec<LaidOut<I>>,
+    pub sinks: Vec<LaidOut<O>>,
+    pub tables: Vec<LaidTable<O>>,
+}
+
 /// What is left of a stream that ended: its flow, sources and sinks, in order, and why it ended.
 #[derive(Drop)]
 pub struct Served<F: Computes, I: Source, O: Sink> {
@@ -46,10 +56,9 @@ pub struct Served<F: Computes, I: Source, O: Sink> {
     pub finish: Finish,
 }
 
-/// Runs a stream until it ends. The sources belong to the channels that are fed, in order; the sinks, and
-/// then the columns of the tables, to those that are drained. Superfluous ones are dropped. A source is read
-/// only when a process waits for its tokens, after all output is written. In a table a token waits until its
-/// row has one in each column; at the end the remaining rows are written, with gaps.
+/// Runs a stream until it ends. Superfluous ends are dropped. A source is read only when a process waits for
+/// its tokens, after all output is written. In a table a token waits until its row has one in each column; at
+/// the end the remaining rows are written, with gaps. The onlooker sees how the stream goes.
 ///
 /// The tokens fed into a channel are those of the records read from its source. The tokens drained from a
 /// channel are written to its sink, each as a record, or to its column, up to one that does not fit the
@@ -60,15 +69,19 @@ pub struct Served<F: Computes, I: Source, O: Sink> {
 /// row; for each channel of a table, at most 1,000,064 tokens that wait for their rows; and the growths.
 ///
 /// Errors: out of memory, before anything is read or written.
-pub fn serve<F: Computes, I: Source + Drop, O: Sink + Drop>(
+pub fn serve<F: Computes, I: Source + Drop, O: Sink + Drop, L: Onlooker>(
     alloc: Global,
     opened: OpenStream<F>,
-    sources: Vec<LaidOut<I>>,
-    sinks: Vec<LaidOut<O>>,
-    tables: Vec<LaidTable<O>>,
+    ends: LaidEnds<I, O>,
+    onlooker: &L,
 ) -> Result<Served<F, I, O>, AllocError>
-    ensures { IfOk result (λ r. Serves (family F.Kinds) opened r.flow (new_inlets I.remaining I.has_failed opened.network opened.inputs sources.items) r.inlets.items (new_outs O.seen opened.outputs sinks.items tables.items) (outs r.outlets.items r.tables.items) r.finish) }
+    ensures { IfOk result (λ r. Serves (family F.Kinds) opened r.flow (new_inlets I.remaining I.has_failed opened.network opened.inputs ends.sources.items) r.inlets.items (new_outs O.seen opened.outputs ends.sinks.items ends.tables.items) (outs r.outlets.items r.tables.items) r.finish) }
 {
+    let LaidEnds {
+        sources,
+        sinks,
+        tables,
+    } = ends;
     let Ports {
         mut inlets,
         mut outs,
@@ -78,7 +91,7 @@ pub fn serve<F: Computes, I: Source + Drop, O: Sink + Drop>(
         inputs: _,
         outputs: _,
     } = opened;
-    let finish = stream_out(alloc, &mut flow, inlets.as_mut_slice(), &mut outs);
+    let finish = stream_out(alloc, &mut flow, inlets.as_mut_slice(), &mut outs, onlooker);
     let Outs { sinks, tables } = outs;
     Ok(Served {
         flow,

@@ -10,6 +10,7 @@ use crate::finish::Finish;
 use crate::inlet::{Inlet, wants_more};
 use crate::pouring::pour_next;
 use crate::telling::Outs;
+use crate::watching::{Onlooker, show, show_if_due};
 use kpn_body::Body;
 use kpn_flow::{Flow, Pause};
 use kpn_front::{Sink, Source};
@@ -19,33 +20,36 @@ use std::alloc::Global;
 const STRETCH: u64 = 1000000;
 
 /// Runs a flow until it ends, writes the rest, and returns why it ended (see [`crate::serve`]).
-pub(crate) fn stream_out<B: Body, I: Source, O: Sink>(
+pub(crate) fn stream_out<B: Body, I: Source, O: Sink, L: Onlooker>(
     alloc: Global,
     flow: &mut Flow<B>,
     inlets: &mut [Inlet<I>],
     outs: &mut Outs<O>,
+    onlooker: &L,
 ) -> Finish
     ensures { StreamsOut (family B.Kinds.Kinds) flow.old flow.new inlets.old inlets.new outs.old outs.new result }
 {
-    let finish = stream(alloc, flow, inlets, outs);
+    let finish = stream(alloc, flow, inlets, outs, onlooker);
     match outs.end() {
         Ok(()) => finish,
         Err(unwritten) => unwritten,
     }
 }
 
-fn stream<B: Body, I: Source, O: Sink>(
+fn stream<B: Body, I: Source, O: Sink, L: Onlooker>(
     alloc: Global,
     flow: &mut Flow<B>,
     inlets: &mut [Inlet<I>],
     outs: &mut Outs<O>,
+    onlooker: &L,
 ) -> Finish
     ensures streams { Streams (family B.Kinds.Kinds) flow.old flow.new inlets.old inlets.new outs.old outs.new }
     ensures finish { IsFinish (family B.Kinds.Kinds) flow.new inlets.new outs.new result }
     ensures written { AreWritten outs.new }
     ensures one_run { IsOneRunInPieces (family B.Kinds.Kinds) flow.new }
 {
-    let finish = turn_on(alloc, flow, inlets, outs);
+    let finish = turn_on(alloc, flow, inlets, outs, onlooker);
+    show(flow, inlets, outs, onlooker);
     flow.assure_one_run();
     match outs.flush_all() {
         Ok(()) => finish,
@@ -53,11 +57,12 @@ fn stream<B: Body, I: Source, O: Sink>(
     }
 }
 
-fn turn_on<B: Body, I: Source, O: Sink>(
+fn turn_on<B: Body, I: Source, O: Sink, L: Onlooker>(
     alloc: Global,
     flow: &mut Flow<B>,
     inlets: &mut [Inlet<I>],
     outs: &mut Outs<O>,
+    onlooker: &L,
 ) -> Finish
     ensures streams { Streams (family B.Kinds.Kinds) flow.old flow.new inlets.old inlets.new outs.old outs.new }
     ensures finish { IsFinish (family B.Kinds.Kinds) flow.new inlets.new outs.new result }
@@ -67,6 +72,7 @@ fn turn_on<B: Body, I: Source, O: Sink>(
         if let Some(finish) = turn(alloc, flow, inlets, outs, &mut next) {
             return finish;
         }
+        show_if_due(flow, inlets, outs, onlooker);
     }
     Finish::Cut
 }

@@ -53,18 +53,18 @@ sort_back Flags = refl
 process_back : (p : ProcessSketch) → described_process (process_value p) ≡ Some p
 process_back p = rw (integers_back p.args) refl
 
-channel_back_two : (version : ℤ) → is_two version ≡ true → (c : ChannelSketch) → has_said_tokens c ≡ true → described_channel version (channel_value true c) ≡ Some c
+channel_back_two : (version : ℤ) → is_two version ≡ true → (c : ChannelSketch) → has_said_tokens c ≡ true → described_channel (record { version = version; has_delays = false }) (channel_value true c) ≡ Some c
 channel_back_two version is c said = rw (is, sort_back c.sort, tokens_back c.tokens said) refl
 
 no_items : {A : Type 0} (xs : List A) → (length xs == 0) ≡ true → [] ≡ xs
 no_items [] is = refl
 no_items (x ∷ xs) is = absurd (omega (arith, (Decides-eqb (length (x ∷ xs)) 0).0 is))
 
-channel_back_other : (version : ℤ) (c : ChannelSketch) → has_no_tokens c ≡ true → described_channel version (channel_value false c) ≡ Some c
+channel_back_other : (version : ℤ) (c : ChannelSketch) → has_no_tokens c ≡ true → described_channel (record { version = version; has_delays = false }) (channel_value false c) ≡ Some c
 channel_back_other version c none = rw (sort_back c.sort) (ap (λ ts. Some (record c { tokens = ts })) (no_items c.tokens none))
 
-channels_back_other : (version : ℤ) (cs : List ChannelSketch) → list_all has_no_tokens cs ≡ true → each (described_channel version) (items_of (map (channel_value false) cs)) ≡ Some cs
-channels_back_other version = each_passed_back (described_channel version) (channel_value false) has_no_tokens (channel_back_other version)
+channels_back_other : (version : ℤ) (cs : List ChannelSketch) → list_all has_no_tokens cs ≡ true → each (described_channel (record { version = version; has_delays = false })) (items_of (map (channel_value false) cs)) ≡ Some cs
+channels_back_other version = each_passed_back (described_channel (record { version = version; has_delays = false })) (channel_value false) has_no_tokens (channel_back_other version)
 
 one_step : (z : ℤ) → int_eq z (pos 1) ≡ true → pos 1 ≡ z
 one_step z is = sym ((Decides-int_eq z (pos 1)).0 is)
@@ -74,7 +74,7 @@ has_step version two = rw (two, is_known) refl
 
 reads_back_two : (s : Sketch) → is_two s.version ≡ true → list_all has_said_tokens s.channels ≡ true → sketch_of (sketch_members s) ≡ Some s
 reads_back_two s two said =
-    let channels = each_passed_back (described_channel s.version) (channel_value true) has_said_tokens (channel_back_two s.version two) s.channels said in
+    let channels = each_passed_back (described_channel (record { version = s.version; has_delays = false })) (channel_value true) has_said_tokens (channel_back_two s.version two) s.channels said in
     rw (two, has_step s.version two, each_back described_process process_value process_back s.processes, channels) refl
 
 reads_back_other : (s : Sketch) → is_two s.version ≡ false → list_all has_no_tokens s.channels ≡ true → pos 1 ≡ s.step → sketch_of (sketch_members s) ≡ Some s

@@ -3,9 +3,10 @@ ghost use Rattle.std.specs.Prelude.{◌≡◌, ◌↔◌, ℕ, ◌<◌, ◌≤�
 ghost use Rattle.std.specs.List.{list_all};
 ghost use Rattle.kpn_model.specs.Network.{channel_of};
 ghost use Rattle.kpn_model.specs.Families.{family};
-ghost use Rattle.kpn_model.specs.Semantics.{start, tokens, capacity, IsBlocked};
+ghost use Rattle.kpn_model.specs.Semantics.{start, tokens, capacity, wants, IsBlocked, IsEnabled};
 ghost use Rattle.kpn_model.specs.Valid.{IsOfSort};
 ghost use Rattle.kpn_state.specs.declared.standing.Standing.TheVariants.{Ready};
+ghost use Rattle.kpn_state.specs.Standings.{standing, is_busy, parked_answer};
 ghost use Rattle.kpn_machine.specs.Opening.{cards_of};
 ghost use Rattle.kpn_flow.specs.Ends.{AreApart, IsFlowFault};
 ghost use Rattle.kpn_flow.specs.Events.{Happens, Fed, Drained, Flows};
@@ -282,6 +283,14 @@ impl<B: Body> Flow<B> {
     {
         let inputs = self.unended.as_slice();
         stand(&self.net, &self.core, inputs, self.outputs.as_slice())
+    }
+
+    /// Ghost lemma: a process that is neither ready nor out wants what it answered, and can't do it.
+    pub fn assure_standings(&self)
+        ensures wanted { (p : ℕ) → is_busy (standing self.now.standings p) ≡ false → wants (family B.Kinds.Kinds) self.now.network self.now.state p ≡ parked_answer (standing self.now.standings p) }
+        ensures busy { (p : ℕ) → IsEnabled (family B.Kinds.Kinds) self.now.network self.now.state p → is_busy (standing self.now.standings p) ≡ true }
+    {
+        let _ = &self.net;
     }
 
     /// Ghost lemma: what holds of each flow at all times. In the events that led to its state tokens came

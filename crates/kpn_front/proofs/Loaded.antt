@@ -6,7 +6,7 @@ use Rattle.kpn_sketch.specs.declared.fault.NetFault.TheVariants.{NotToml, Keys, 
 use Rattle.kpn_model.specs.declared.kinds.Card.{Card}
 use Rattle.kpn_model.specs.declared.kinds.Signature.{Signature}
 use Rattle.kpn_sketch.specs.declared.sketch.Sketch.{Sketch}
-use Rattle.kpn_sketch.specs.Description.{Describes}
+use Rattle.kpn_sketch.specs.Description.{DescribesBy, Reader}
 use Rattle.kpn_net.specs.Faults.{first_fault, has_fault}
 use Rattle.kpn_model.specs.Network.{Network}
 use Rattle.kpn_net.specs.Sketched.{net_of}
@@ -27,11 +27,11 @@ module _ (named : List ℕ → Option (ℕ × ℕ)) (signature : Card → Option
   no_other : (sketch : Sketch) (e : NetFault) → first_fault named signature sketch ≡ Some e → has_fault named signature sketch e ≡ true
   no_other sketch e h = found_passes (has_fault named signature sketch) (Version ∷ Counts ∷ Name ∷ Kind ∷ Args ∷ NoEnd ∷ Twice ∷ Unused ∷ Sorts ∷ Capacity ∷ Budget ∷ Tokens ∷ Step ∷ []) e h
 
-  module _ (change : Sketch → Sketch) where
+  module _ {A : Type 0} (read : Reader A) (change : A → Sketch) where
     -- the fault of `check` is a fault of loading
     fault_from :
-        (failed : Bool) (text : List ℕ) (sketch : Sketch) (e : NetFault) → IsWhole failed text → Describes text sketch → (e ≢ Memory → first_fault named signature (change sketch) ≡ Some e)
-        → IsLoadFault change named signature failed text e
+        (failed : Bool) (text : List ℕ) (sketch : A) (e : NetFault) → IsWhole failed text → DescribesBy read text sketch → (e ≢ Memory → first_fault named signature (change sketch) ≡ Some e)
+        → IsLoadFault read change named signature failed text e
     fault_from failed text sketch NotToml short d h = let bad : false ≡ true = no_other (change sketch) NotToml (h (λ x. cc)) in cc
     fault_from failed text sketch Keys short d h = let bad : false ≡ true = no_other (change sketch) Keys (h (λ x. cc)) in cc
     fault_from failed text sketch Input short d h = let bad : false ≡ true = no_other (change sketch) Input (h (λ x. cc)) in cc
@@ -51,15 +51,15 @@ module _ (named : List ℕ → Option (ℕ × ℕ)) (signature : Card → Option
     fault_from failed text sketch Step short d h = (short, (sketch, d, h (λ x. cc)))
 
     -- the result of `check`, if this is the whole text
-    pub loads_from : (failed : Bool) (text : List ℕ) (sketch : Sketch) (r : Result Network NetFault) → IsWhole failed text → Describes text sketch
+    pub loads_from : (failed : Bool) (text : List ℕ) (sketch : A) (r : Result Network NetFault) → IsWhole failed text → DescribesBy read text sketch
         → IfOk r (λ n. (first_fault named signature (change sketch) ≡ None) × (n ≡ net_of named (change sketch)))
-        → IfErr r (λ e. e ≢ Memory → first_fault named signature (change sketch) ≡ Some e) → LoadsChanged change named signature failed text r
+        → IfErr r (λ e. e ≢ Memory → first_fault named signature (change sketch) ≡ Some e) → LoadsChanged read change named signature failed text r
     loads_from failed text sketch (Ok n) short d ok fault = (short, (sketch, d, ok.0, ok.1))
     loads_from failed text sketch (Err e) short d ok fault = fault_from failed text sketch e short d fault
 
     -- what a text describes is loaded of the source that had it, if no read failed
     pub loads_known :
         (failed : Bool) (known : Option (List ℕ)) (text : List ℕ) (r : Result Network NetFault) → IfSome known (λ t. text ≡ t) → failed ≡ false
-        → LoadsChanged change named signature false text r → IfSome known (λ t. LoadsChanged change named signature failed t r)
+        → LoadsChanged read change named signature false text r → IfSome known (λ t. LoadsChanged read change named signature failed t r)
     loads_known failed None text r same e h = tt
     loads_known failed (Some t) text r same e h = rw (← same, e) h

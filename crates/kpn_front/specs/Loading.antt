@@ -7,7 +7,7 @@ use Rattle.kpn_front.specs.declared.loading.Refused.{Refused}
 use Rattle.kpn_model.specs.declared.kinds.Card.{Card}
 use Rattle.kpn_model.specs.declared.kinds.Signature.{Signature}
 use Rattle.kpn_sketch.specs.declared.sketch.Sketch.{Sketch}
-use Rattle.kpn_sketch.specs.Description.{Describes, IsReadFault}
+use Rattle.kpn_sketch.specs.Description.{DescribesBy, IsFaultBy, Reader, sketch_of}
 use Rattle.kpn_net.specs.Faults.{first_fault}
 use Rattle.kpn_model.specs.declared.limits.TheConstants.{LONGEST_TEXT}
 use Rattle.kpn_model.specs.Network.{Network}
@@ -33,19 +33,19 @@ IsTextOf text refused = (refused.text.items ≡ text) ⊎ ((refused.text.items �
 abbrev pub IsWhole : Bool → List ℕ → Type 0
 IsWhole failed text = (failed ≡ false) × (length text ≤ longest)
 
--- `change` changes a sketch before it is checked
-module _ (change : Sketch → Sketch) (named : List ℕ → Option (ℕ × ℕ)) (signature : Card → Option Signature) (failed : Bool) (text : List ℕ) where
-  -- the text describes a sketch without a fault, and the network is that sketch's
+-- `read` reads a description, and `change` makes the sketch of it that is checked
+module _ {A : Type 0} (read : Reader A) (change : A → Sketch) (named : List ℕ → Option (ℕ × ℕ)) (signature : Card → Option Signature) (failed : Bool) (text : List ℕ) where
+  -- the sketch of what the text describes has no fault, and the network is that sketch's
   abbrev pub IsNetOf : Network → Type 0
-  IsNetOf net = IsWhole failed text × ((sketch : Sketch) × Describes text sketch × (first_fault named signature (change sketch) ≡ None) × (net ≡ net_of named (change sketch)))
+  IsNetOf net = IsWhole failed text × ((described : A) × DescribesBy read text described × (first_fault named signature (change described) ≡ None) × (net ≡ net_of named (change described)))
 
-  -- a read failed, the text is too long or can't be read, or the described sketch has a fault
+  -- a read failed, the text is too long or can't be read, or the sketch of what it describes has a fault
   abbrev pub IsLoadFault : NetFault → Type 0
   IsLoadFault Memory = failed ≡ false
   IsLoadFault Input = (failed ≡ true) ⊎ (longest < length text)
-  IsLoadFault NotToml = IsWhole failed text × IsReadFault text NotToml
-  IsLoadFault Keys = IsWhole failed text × IsReadFault text Keys
-  IsLoadFault e = IsWhole failed text × ((sketch : Sketch) × Describes text sketch × (first_fault named signature (change sketch) ≡ Some e))
+  IsLoadFault NotToml = IsWhole failed text × IsFaultBy read text NotToml
+  IsLoadFault Keys = IsWhole failed text × IsFaultBy read text Keys
+  IsLoadFault e = IsWhole failed text × ((described : A) × DescribesBy read text described × (first_fault named signature (change described) ≡ Some e))
 
   -- what is loaded from this text, given whether a read failed
   abbrev pub LoadsChanged : Result Network NetFault → Type 0
@@ -53,4 +53,4 @@ module _ (change : Sketch → Sketch) (named : List ℕ → Option (ℕ × ℕ))
 
 -- without a change of the sketch
 abbrev pub Loads : (List ℕ → Option (ℕ × ℕ)) → (Card → Option Signature) → Bool → List ℕ → Result Network NetFault → Type 0
-Loads = LoadsChanged (λ sketch. sketch)
+Loads = LoadsChanged sketch_of (λ sketch. sketch)

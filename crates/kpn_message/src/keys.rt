@@ -66,8 +66,8 @@ static PROCESS: [Key; 3] = [
     Key("args", Form::Integers, Optional),
 ];
 
-/// The keys of a channel: the last only in version 2.
-static CHANNEL: [Key; 8] = [
+/// The keys of a channel: the last two only in version 2, and the last only where channels may have delays.
+static CHANNEL: [Key; 9] = [
     Key("name", Form::Text, Required),
     Key("from", Form::Text, Required),
     Key("to", Form::Text, Required),
@@ -76,6 +76,7 @@ static CHANNEL: [Key; 8] = [
     Key("sort", Form::Sort, Optional),
     Key("capacity", Form::Integer, Optional),
     Key("tokens", Form::Tokens, Optional),
+    Key("delay", Form::Integer, Optional),
 ];
 
 /// An array of tables: its key, the header of each table, and the keys of each.
@@ -88,6 +89,7 @@ pub(crate) fn push_misfit(
     out: &mut String,
     text: &[u8],
     table: &Table,
+    has_delays: bool,
 ) -> Result<(), AllocError> {
     if push_key(out, table, TOP[0])? {
         return Ok(());
@@ -96,10 +98,10 @@ pub(crate) fn push_misfit(
         Some(Value::Integer(version)) => *version,
         _ => 1,
     };
-    let (top, channel): (&[Key], &[Key]) = if is_two(version) {
-        (&TOP, &CHANNEL)
-    } else {
-        (&TOP[..4], &CHANNEL[..7])
+    let (top, channel): (&[Key], &[Key]) = match (is_two(version), has_delays) {
+        (true, true) => (&TOP, &CHANNEL),
+        (true, false) => (&TOP, &CHANNEL[..8]),
+        (false, _) => (&TOP[..4], &CHANNEL[..7]),
     };
     let processes = Tables("process", "[[process]]", &PROCESS);
     let channels = Tables("channel", "[[channel]]", channel);

@@ -19,4 +19,4 @@ mod quoted;
 pub use every_fault::{MOST_MESSAGES, Message, Messages, messages_of_sketch};
 pub use lines::line_of_table;
 pub use location::{Location, locate};
-pub use message::{message_of, message_of_sketch};
+pub use message::{message_of, message_of_delayed, message_of_sketch};

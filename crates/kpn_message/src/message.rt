@@ -34,7 +34,7 @@ pub fn message_of<K: Kinds>(
         return None;
     }
     match fault {
-        NetFault::NotToml | NetFault::Keys => message_of_text(alloc, text),
+        NetFault::NotToml | NetFault::Keys => message_of_text(alloc, text, false),
         _ => {
             let sketch = read_sketch(alloc, text).ok()?;
             message_of_sketch::<K>(alloc, &sketch, fault, kinds)
@@ -72,18 +72,35 @@ fn says_all(fault: NetFault) -> bool
     matches!(fault, NetFault::Memory | NetFault::Input)
 }
 
-fn message_of_text(alloc: Global, text: &[u8]) -> Option<String>
+/// Returns what is wrong with a text whose channels may have delays, and where, on one line without a line feed: it
+/// is not TOML, or a key is wrong. `None` if neither, or out of memory.
+///
+/// ```text
+/// NetFault::NotToml | NetFault::Keys => message_of_delayed(rt.alloc(), text),
+/// ```
+pub fn message_of_delayed(alloc: Global, text: &[u8]) -> Option<String>
+    ensures said { IfSome result (λ message. string_bytes message ≢ []) }
+{
+    message_of_text(alloc, text, true)
+}
+
+fn message_of_text(alloc: Global, text: &[u8], has_delays: bool) -> Option<String>
     ensures said { IfSome result (λ message. string_bytes message ≢ []) }
 {
     let mut out = String::new(alloc);
-    push_unread(alloc, &mut out, text).ok()?;
+    push_unread(alloc, &mut out, text, has_delays).ok()?;
     unless_empty(out)
 }
 
 /// Appends what is wrong with a text that is not TOML, or else with its keys.
-fn push_unread(alloc: Global, out: &mut String, text: &[u8]) -> Result<(), AllocError> {
+fn push_unread(
+    alloc: Global,
+    out: &mut String,
+    text: &[u8],
+    has_delays: bool,
+) -> Result<(), AllocError> {
     match toml::table_from_slice(alloc, text) {
-        Ok(table) => push_misfit(alloc, out, text, &table),
+        Ok(table) => push_misfit(alloc, out, text, &table, has_delays),
         Err(error) => push_syntax(out, text, &error),
     }
 }

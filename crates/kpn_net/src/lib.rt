@@ -20,5 +20,6 @@ pub use kpn_model::{
 };
 pub use kpn_network::Net;
 pub use kpn_sketch::{
-    ChannelSketch, NetFault, ProcessSketch, Sketch, TokenSketch, fault, read, read_sketch, sketch,
+    ChannelSketch, Delay, Delayed, NetFault, ProcessSketch, Sketch, TokenSketch, fault, read,
+    read_delayed, read_sketch, sketch,
 };

@@ -1,7 +1,8 @@
 -- The text of a picture, in the language of Graphviz.
-use Rattle.std.specs.Prelude.{◌≢◌, All, ℕ, ◌+◌, ◌/◌, ◌==◌, nat_lt, nat_le, ◌&&◌, zero, suc, Bool, true, false, not, if◌then◌else◌, codes, decimal, List, [], ◌++◌, length, slice_get, Option, Some, None}
+use Rattle.std.specs.Prelude.{◌≢◌, All, ℕ, ◌+◌, ◌/◌, ◌==◌, nat_lt, nat_le, ◌&&◌, ◌||◌, zero, suc, Bool, true, false, not, if◌then◌else◌, codes, decimal, List, [], ◌++◌, length, slice_get, Option, Some, None}
 use Rattle.std.specs.List.{count_by}
 use Rattle.std.specs.Option.{option_map_or}
+use Rattle.std.specs.Str.{bytes_eq}
 use Rattle.kpn_model.specs.declared.token.Token.{Token}
 use Rattle.kpn_model.specs.declared.token.Sort.{Sort}
 use Rattle.kpn_model.specs.declared.token.Sort.TheVariants.{Words, Flags}
@@ -14,6 +15,7 @@ use Rattle.kpn_model.specs.Network.{Network, card_of, channel_of, in_of, out_of}
 use Rattle.kpn_model.specs.NamesAndLines.{process_name, channel_name, lines_upto}
 use Rattle.kpn_model.specs.Waits.{is_on_cycle, is_jammed}
 use Rattle.kpn_standard.specs.Locals.{at}
+use Rattle.kpn_picture.specs.declared.edges.EdgeForm.{EdgeForm}
 use Rattle.kpn_picture.specs.declared.looks.Direction.{Direction}
 use Rattle.kpn_picture.specs.declared.looks.Direction.TheVariants.{Right, Down}
 use Rattle.kpn_picture.specs.Titles.{below}
@@ -83,6 +85,22 @@ box_opening name = codes "  \"" ++ name ++ codes "\" [label=\"" ++ name ++ codes
 abbrev pub closing : List ℕ → List ℕ
 closing look = codes "\"" ++ look ++ codes "];\n"
 
+-- the line of a point, up to its look
+abbrev pub point_opening : List ℕ → List ℕ
+point_opening name = codes "  \"" ++ name ++ codes "\" [shape=point, width=0.08, label=\""
+
+abbrev pub point_line : List ℕ → List ℕ → List ℕ
+point_line name look = point_opening name ++ closing look
+
+abbrev pub is_copy : List ℕ → Bool
+is_copy kind = bytes_eq kind (codes "copy") || bytes_eq kind (codes "copy_flags")
+
+-- from a point, or not; and to one: then without an arrowhead, and in one rank with the point before
+abbrev pub link_part : Bool → Bool → List ℕ
+link_part from false = []
+link_part false true = codes ", arrowhead=none"
+link_part true true = codes ", arrowhead=none, minlen=0"
+
 -- a kind, with its arguments
 abbrev pub kind_text : (ℕ → List ℕ × ℕ) → Card → List ℕ
 kind_text title card = let t = title card.kind in t.0 ++ argument_part t.1 card 0 ++ argument_part t.1 card 1 ++ argument_part t.1 card 2
@@ -91,9 +109,14 @@ kind_text title card = let t = title card.kind in t.0 ++ argument_part t.1 card 
 abbrev pub stays : Channel → Bool
 stays l = l.writer / 8 == l.reader / 8
 
--- there are rows if there are more than twelve processes, and more than half of the channels stay in a row
+-- a channel is a branch if it leads from or to another port than the first
+abbrev pub is_branch : Channel → Bool
+is_branch l = nat_lt 0 l.out || nat_lt 0 l.input
+
+-- a chain of more than twelve processes has rows, if more than half of its channels stay in a row
 abbrev pub has_rows : Network → Bool
-has_rows net = nat_lt 12 (length net.processes) && nat_lt (length net.channels / 2) (count_by stays net.channels)
+has_rows net =
+    nat_lt 12 (length net.processes) && count_by is_branch net.channels == 0 && nat_lt (length net.channels / 2) (count_by stays net.channels)
 
 -- a channel to another row does not affect the layout
 abbrev pub row_part : Bool → Bool → List ℕ
@@ -106,12 +129,26 @@ module _ (net : Network) where
   place_label (Reads c) = codes "\\nwaits to read " ++ channel_name net c
   place_label (Writes c) = codes "\\nwaits to write " ++ channel_name net c
 
-  module _ (title : ℕ → List ℕ × ℕ) (places : List Place) where
+  abbrev pub has_name_of : ℕ → ℕ → Bool
+  has_name_of p c = bytes_eq (process_name net p) (channel_name net c)
+
+  -- the channel that a process reads, or the first that it writes, has its name
+  abbrev pub names_channel : ℕ → Bool
+  names_channel p = option_map_or (has_name_of p) (in_of net p 0) false || option_map_or (has_name_of p) (out_of net p 0) false
+
+  module _ (title : ℕ → List ℕ × ℕ) where
+    -- a copy that has the name of a channel at its first ports, as fan-out makes them, is drawn as a point
+    abbrev pub is_point : ℕ → Bool
+    is_point p = is_copy (title (card_of net p).kind).0 && names_channel p
+
     -- process p, as a box: its name, its kind and its place, if known
-    abbrev pub node_line : ℕ → List ℕ
-    node_line p =
+    abbrev pub box_line : List Place → ℕ → List ℕ
+    box_line places p =
         box_opening (process_name net p) ++ kind_text title (card_of net p) ++ option_map_or place_label (slice_get places p) []
         ++ closing (process_look (is_on_cycle net places p) (slice_get places p))
+
+    abbrev pub node_line : List Place → ℕ → List ℕ
+    node_line places p = if is_point p then point_line (process_name net p) (process_look (is_on_cycle net places p) (slice_get places p)) else box_line places p
 
   abbrev pub edge_opening : ℕ → List ℕ
   edge_opening c = let l = channel_of net c in arrow (process_name net l.writer) (process_name net l.reader)
@@ -122,6 +159,17 @@ module _ (net : Network) where
 
   abbrev pub head_part : ℕ → List ℕ
   head_part c = let l = channel_of net c in port_part (codes "head") l.input (in_of net l.reader 1)
+
+  -- channel c has the name of the point that it leads from or to
+  abbrev pub has_name_of_point : (ℕ → List ℕ × ℕ) → ℕ → Bool
+  has_name_of_point title c =
+      let l = channel_of net c in (is_point title l.writer && has_name_of l.writer c) || (is_point title l.reader && has_name_of l.reader c)
+
+  -- whether there are rows, whether channel c leads from a point, and to one, and whether it has a label
+  abbrev pub form_of : (ℕ → List ℕ × ℕ) → Bool → ℕ → EdgeForm
+  form_of title rows c =
+      let l = channel_of net c in
+      record { has_rows = rows; from_point = is_point title l.writer; to_point = is_point title l.reader; has_label = not (has_name_of_point title c) }
 
   module _ (places : List Place) (capacities : List ℕ) (rests : List (List Token)) where
     -- what channel c holds, and its capacity: at the end, if known, otherwise at first
@@ -138,16 +186,25 @@ module _ (net : Network) where
     abbrev pub edge_label : ℕ → List ℕ
     edge_label c = channel_name net c ++ sort_part (channel_of net c).sort ++ capacity_part (channel_of net c).capacity (last_capacity c) ++ held_part (held_tokens c)
 
-    -- what follows its label: its look, and its ports
-    abbrev pub edge_attributes : Bool → ℕ → List ℕ
-    edge_attributes rows c = edge_look (is_jammed net places c) (has_grown c) ++ tail_part c ++ head_part c ++ row_part rows (stays (channel_of net c))
+    -- none if it has the name of a point
+    abbrev pub label_part : Bool → ℕ → List ℕ
+    label_part has_label c = if has_label then edge_label c else []
+
+    -- what follows its label: its look, and its ports, but for that of a point which it leads from
+    abbrev pub edge_attributes : EdgeForm → ℕ → List ℕ
+    edge_attributes form c =
+        edge_look (is_jammed net places c) (has_grown c) ++ (if form.from_point then [] else tail_part c) ++ head_part c
+        ++ link_part form.from_point form.to_point ++ row_part form.has_rows (stays (channel_of net c))
+
+    abbrev pub formed_line : EdgeForm → ℕ → List ℕ
+    formed_line form c = edge_opening c ++ label_part form.has_label c ++ codes "\"" ++ edge_attributes form c ++ codes "];\n"
 
     -- channel c, as an edge from its writer to its reader
-    abbrev pub edge_line : Bool → ℕ → List ℕ
-    edge_line rows c = edge_opening c ++ edge_label c ++ codes "\"" ++ edge_attributes rows c ++ codes "];\n"
+    abbrev pub edge_line : (ℕ → List ℕ × ℕ) → Bool → ℕ → List ℕ
+    edge_line title rows c = formed_line (form_of title rows c) c
 
 -- the picture of a network, or of a run that ended like this
 abbrev pub picture : Direction → (ℕ → List ℕ × ℕ) → Network → Option End → List Place → List ℕ → List (List Token) → List ℕ
 picture direction title net end places capacities rests =
     head direction ++ caption net places end ++ lines_upto (node_line net title places) (length net.processes)
-    ++ lines_upto (edge_line net places capacities rests (has_rows net)) (length net.channels) ++ codes "}\n"
+    ++ lines_upto (edge_line net places capacities rests title (has_rows net)) (length net.channels) ++ codes "}\n"

@@ -1,13 +1,15 @@
 //! Channels, as edges.
-ghost use Rattle.std.specs.Prelude.{◌≡◌, ◌++◌, ◌<◌, OnOk, length, string_bytes};
+ghost use Rattle.std.specs.Prelude.{◌≡◌, ◌++◌, ◌<◌, [], OnOk, length, string_bytes, if◌then◌else◌};
 ghost use Rattle.kpn_model.specs.Network.{channel_of};
 ghost use Rattle.kpn_model.specs.Waits.{is_jammed};
 ghost use Rattle.kpn_model.specs.NamesAndLines.{lines_upto};
-ghost use Rattle.kpn_picture.specs.Picture.{arrow, edge_opening, edge_look, has_grown, capacity_text, capacity_part, held_part, held_tokens, last_capacity, port_part, tail_part, head_part, has_rows, stays, edge_label, edge_attributes, edge_line};
+ghost use Rattle.kpn_picture.specs.Picture.{arrow, edge_opening, edge_look, has_grown, capacity_text, capacity_part, held_part, held_tokens, last_capacity, port_part, tail_part, head_part, has_rows, stays, edge_label, edge_attributes, edge_line, form_of, formed_line, label_part, link_part};
 
-use crate::looks::{edge_look, row_part, sort_part};
+use crate::looks::{edge_look, link_part, row_part, sort_part};
 use crate::picture::Left;
+use crate::points::{ends_of, has_name_of_point, is_point};
 use crate::rows::{has_rows, stays};
+use crate::titles::Titled;
 use kpn_model::Kinds;
 use kpn_network::Net;
 use kpn_network::names::{channel_name, process_name};
@@ -140,20 +142,79 @@ fn push_head<K: Kinds>(out: &mut String, net: &Net<K>, c: usize) -> Result<(), A
     push_port(out, "head", ends.input, net.in_of(ends.reader, 1))
 }
 
+/// The form of an edge: whether the picture has rows, whether the edge leads from a point, and to one, and whether it
+/// has a label.
+#[derive(Clone, Copy)]
+pub(crate) struct EdgeForm {
+    has_rows: bool,
+    from_point: bool,
+    to_point: bool,
+    has_label: bool,
+}
+
+fn form_of<K: Titled>(net: &Net<K>, has_rows: bool, c: usize) -> EdgeForm
+    requires { c < length net.now.channels }
+    ensures { result ≡ form_of net.now K.title has_rows c }
+{
+    let ends = ends_of(net, c);
+    EdgeForm {
+        has_rows,
+        from_point: is_point(net, ends.writer),
+        to_point: is_point(net, ends.reader),
+        has_label: !has_name_of_point(net, c),
+    }
+}
+
+/// Appends the label of a channel, if it has one.
+fn push_label_part<K: Kinds>(
+    out: &mut String,
+    net: &Net<K>,
+    left: &Left<'_>,
+    has_label: bool,
+    c: usize,
+) -> Result<(), AllocError>
+    requires { c < length net.now.channels }
+    ensures { OnOk result (string_bytes out.new ≡ string_bytes out.old ++ label_part net.now left.now.places.now left.now.capacities.now left.now.rests.now has_label c) }
+{
+    if has_label {
+        push_label(out, net, left, c)
+    } else {
+        Ok(())
+    }
+}
+
+/// Appends the port that a channel leads from, unless that is a point's.
+fn push_tail_part<K: Kinds>(
+    out: &mut String,
+    net: &Net<K>,
+    from_point: bool,
+    c: usize,
+) -> Result<(), AllocError>
+    requires { c < length net.now.channels }
+    ensures { OnOk result (string_bytes out.new ≡ string_bytes out.old ++ (if from_point then [] else tail_part net.now c)) }
+{
+    if from_point {
+        Ok(())
+    } else {
+        push_tail(out, net, c)
+    }
+}
+
 fn push_attributes<K: Kinds>(
     out: &mut String,
     net: &Net<K>,
     left: &Left<'_>,
-    has_rows: bool,
+    form: EdgeForm,
     c: usize,
 ) -> Result<(), AllocError>
     requires { c < length net.now.channels }
-    ensures { OnOk result (string_bytes out.new ≡ string_bytes out.old ++ edge_attributes net.now left.now.places.now left.now.capacities.now left.now.rests.now has_rows c) }
+    ensures { OnOk result (string_bytes out.new ≡ string_bytes out.old ++ edge_attributes net.now left.now.places.now left.now.capacities.now left.now.rests.now form c) }
 {
     out.push_str(look(net, left, c))?;
-    push_tail(out, net, c)?;
+    push_tail_part(out, net, form.from_point, c)?;
     push_head(out, net, c)?;
-    out.push_str(row_part(has_rows, stays(net, c)))?;
+    out.push_str(link_part(form.from_point, form.to_point))?;
+    out.push_str(row_part(form.has_rows, stays(net, c)))?;
     Ok(())
 }
 
@@ -161,30 +222,45 @@ fn push_channel<K: Kinds>(
     out: &mut String,
     net: &Net<K>,
     left: &Left<'_>,
-    has_rows: bool,
+    form: EdgeForm,
     c: usize,
 ) -> Result<(), AllocError>
     requires { c < length net.now.channels }
-    ensures { OnOk result (string_bytes out.new ≡ string_bytes out.old ++ edge_line net.now left.now.places.now left.now.capacities.now left.now.rests.now has_rows c) }
+    ensures { OnOk result (string_bytes out.new ≡ string_bytes out.old ++ formed_line net.now left.now.places.now left.now.capacities.now left.now.rests.now form c) }
 {
     push_opening(out, net, c)?;
-    push_label(out, net, left, c)?;
+    push_label_part(out, net, left, form.has_label, c)?;
     out.push_str("\"")?;
-    push_attributes(out, net, left, has_rows, c)?;
+    push_attributes(out, net, left, form, c)?;
     out.push_str("];\n")?;
     Ok(())
 }
 
-pub(crate) fn push_channels<K: Kinds>(
+/// Appends a channel, as an edge from its writer to its reader.
+fn push_edge<K: Titled>(
+    out: &mut String,
+    net: &Net<K>,
+    left: &Left<'_>,
+    has_rows: bool,
+    c: usize,
+) -> Result<(), AllocError>
+    requires { c < length net.now.channels }
+    ensures { OnOk result (string_bytes out.new ≡ string_bytes out.old ++ edge_line net.now left.now.places.now left.now.capacities.now left.now.rests.now K.title has_rows c) }
+{
+    let form = form_of(net, has_rows, c);
+    push_channel(out, net, left, form, c)
+}
+
+pub(crate) fn push_channels<K: Titled>(
     out: &mut String,
     net: &Net<K>,
     left: &Left<'_>,
 ) -> Result<(), AllocError>
-    ensures { OnOk result (string_bytes out.new ≡ string_bytes out.old ++ lines_upto (edge_line net.now left.now.places.now left.now.capacities.now left.now.rests.now (has_rows net.now)) (length net.now.channels)) }
+    ensures { OnOk result (string_bytes out.new ≡ string_bytes out.old ++ lines_upto (edge_line net.now left.now.places.now left.now.capacities.now left.now.rests.now K.title (has_rows net.now)) (length net.now.channels)) }
 {
     let has_rows = has_rows(net);
     for c in 0..net.channels() {
-        push_channel(out, net, left, has_rows, c)?;
+        push_edge(out, net, left, has_rows, c)?;
     }
     Ok(())
 }

@@ -6,6 +6,7 @@ mod edges;
 mod looks;
 mod nodes;
 mod picture;
+mod points;
 mod rows;
 mod titles;
 

@@ -1,6 +1,6 @@
 //! How processes and channels look.
 ghost use Rattle.std.specs.Prelude.{◌≡◌, ◌++◌, OnOk, string_bytes};
-ghost use Rattle.kpn_picture.specs.Picture.{rankdir, closing, edge_look, process_look, row_part, sort_part};
+ghost use Rattle.kpn_picture.specs.Picture.{rankdir, closing, edge_look, link_part, process_look, row_part, sort_part};
 
 use kpn_model::{Place, Sort};
 use std::alloc::AllocError;
@@ -63,6 +63,17 @@ pub(crate) fn row_part(has_rows: bool, stays: bool) -> &'static str
         ", constraint=false"
     } else {
         ""
+    }
+}
+
+/// Returns the attributes of an edge to a point: no arrowhead, and from another point none of its own rank.
+pub(crate) fn link_part(from_point: bool, to_point: bool) -> &'static str
+    ensures { result.now ≡ link_part from_point to_point }
+{
+    match (from_point, to_point) {
+        (_, false) => "",
+        (false, true) => ", arrowhead=none",
+        (true, true) => ", arrowhead=none, minlen=0",
     }
 }
 

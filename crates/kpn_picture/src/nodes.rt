@@ -1,12 +1,13 @@
-//! Processes, as boxes.
+//! Processes, as boxes, or as points where channels branch.
 ghost use Rattle.std.specs.Prelude.{◌≡◌, ◌++◌, ◌<◌, [], OnOk, IsSome, length, string_bytes};
 ghost use Rattle.std.specs.Option.{option_map_or};
 ghost use Rattle.kpn_model.specs.Network.{card_of};
 ghost use Rattle.kpn_model.specs.NamesAndLines.{lines_upto};
 ghost use Rattle.kpn_picture.specs.Titles.{below};
-ghost use Rattle.kpn_picture.specs.Picture.{argument_part, box_opening, kind_text, place_label, node_line};
+ghost use Rattle.kpn_picture.specs.Picture.{argument_part, box_line, box_opening, kind_text, place_label, node_line};
 
 use crate::looks::{process_look, push_closing};
+use crate::points::{is_point, push_point};
 use crate::titles::Titled;
 use kpn_model::{Card, Kinds, Place};
 use kpn_network::Net;
@@ -74,7 +75,7 @@ fn push_place<K: Kinds>(
 }
 
 /// Returns the card of a process, which has a signature.
-fn card<K: Kinds>(net: &Net<K>, p: usize) -> Card
+pub(crate) fn card<K: Kinds>(net: &Net<K>, p: usize) -> Card
     requires { p < length net.now.processes }
     ensures is { result ≡ card_of net.now p }
     ensures signed { IsSome (K.signature result) }
@@ -97,6 +98,22 @@ fn push_process<K: Titled>(
 ) -> Result<(), AllocError>
     requires { p < length net.now.processes }
     ensures { OnOk result (string_bytes out.new ≡ string_bytes out.old ++ node_line net.now K.title places.now p) }
+{
+    if !is_point(net, p) {
+        return push_box(out, net, places, p);
+    }
+    let look = process_look(is_on_cycle(net, places, p), place_at(places, p));
+    push_point(out, process_name(net, p), look)
+}
+
+fn push_box<K: Titled>(
+    out: &mut String,
+    net: &Net<K>,
+    places: &[Place],
+    p: usize,
+) -> Result<(), AllocError>
+    requires { p < length net.now.processes }
+    ensures { OnOk result (string_bytes out.new ≡ string_bytes out.old ++ box_line net.now K.title places.now p) }
 {
     let name = process_name(net, p);
     let place = place_at(places, p);

@@ -48,10 +48,11 @@ fn head(alloc: Global, direction: Direction) -> Result<String, AllocError>
 /// with name and kind, and edges for channels, from writer to reader, with name and whatever is unusual: a
 /// sort of flags, a capacity other than 1, tokens. A port has its number if the process has several. For a
 /// run that ended it shows the verdict and the end, each process's place, and each channel's growth and
-/// tokens; channels on a cycle of waits are red.
+/// tokens; channels on a cycle of waits are red. A copy that has the name of the channel that it reads is a
+/// point, at which an arrow branches.
 ///
-/// More than 12 processes are in rows of eight, in order (in columns, if the direction is down), if most
-/// channels stay within a row.
+/// A chain of more than 12 processes, where none has several inputs or outputs, is in rows of eight, in order
+/// (in columns, if the direction is down), if most channels stay within a row.
 ///
 /// Names are quoted without escapes, since they have no quote, backslash or line feed (`processes` and
 /// `channels`). Errors: out of memory.

@@ -1,7 +1,7 @@
 //! The rows of a large picture.
 ghost use Rattle.std.specs.Prelude.{◌≡◌, ◌<◌, length, count_by};
 ghost use Rattle.kpn_model.specs.Network.{channel_of};
-ghost use Rattle.kpn_picture.specs.Picture.{has_rows, stays};
+ghost use Rattle.kpn_picture.specs.Picture.{has_rows, is_branch, stays};
 
 use kpn_model::Kinds;
 use kpn_network::Net;
@@ -32,8 +32,30 @@ fn staying<K: Kinds>(net: &Net<K>) -> usize
     staying
 }
 
+/// Whether a channel leads from or to another port than the first.
+fn is_branch<K: Kinds>(net: &Net<K>, c: usize) -> bool
+    requires { c < length net.now.channels }
+    ensures { result ≡ is_branch (channel_of net.now c) }
+{
+    let ends = net.ends(c);
+    ends.out > 0 || ends.input > 0
+}
+
+fn branches<K: Kinds>(net: &Net<K>) -> usize
+    ensures count { result ≡ count_by is_branch net.now.channels }
+{
+    let mut branches = 0;
+    for c in 0..net.channels() {
+        if is_branch(net, c) {
+            branches += 1;
+        }
+    }
+    branches
+}
+
 pub(crate) fn has_rows<K: Kinds>(net: &Net<K>) -> bool
     ensures { result ≡ has_rows net.now }
 {
-    net.processes() > ONE_ROW && net.channels() / 2 < staying(net)
+    let is_chain = branches(net) == 0;
+    net.processes() > ONE_ROW && is_chain && net.channels() / 2 < staying(net)
 }

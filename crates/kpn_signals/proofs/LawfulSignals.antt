@@ -6,24 +6,26 @@ use Rattle.kpn_model.specs.declared.token.Token.TheVariants.{Word, Flag}
 use Rattle.kpn_model.specs.declared.kinds.Card.{Card}
 use Rattle.kpn_model.specs.declared.kinds.Signature.{Signature}
 use Rattle.kpn_model.specs.Lawful.{Fits, CardFits, AreLawful}
-use Rattle.kpn_standard.specs.Locals.{at, word, one, stays, IsLocal, LastFits}
-use Rattle.kpn_standard.specs.Table.{one_word}
+use Rattle.kpn_standard.specs.Locals.{at, got, word, flag, one, stays, IsLocal, LastFits}
+use Rattle.kpn_standard.specs.Table.{one_word, one_flag, word_and_flag}
 use Rattle.kpn_standard.specs.Signatures.{given}
 use Rattle.kpn_standard.proofs.Laws.{passes}
 use Rattle.kpn_signals.specs.declared.signal.Signal.{Signal}
-use Rattle.kpn_signals.specs.declared.signal.Signal.TheVariants.{Input, InputFlags, Drain, DrainFlags, Constant, CountUp, Sub, Mul, Shift, Left, Less, Equal, Not, And, Or, Decimate, Repeat, Hold, Delay, LowPass, Clip, SignedConstant, SignedHold, SignedClip, SignedScale, SignedPrefix}
+use Rattle.kpn_signals.specs.declared.signal.Signal.TheVariants.{Input, InputFlags, Drain, DrainFlags, Constant, CountUp, Sub, Mul, Shift, Left, Less, Equal, Not, And, Or, Decimate, Repeat, Hold, Delay, LowPass, Clip, SignedConstant, SignedHold, SignedClip, SignedScale, SignedPrefix, CopyFlags, Min, Max, Abs, Offset, Gain, Div, Mod, Sum, Difference, Average, Counter, Edge, Noise, Gate, SignedOffset, SignedGain}
+use Rattle.kpn_signals.specs.declared.turns.TheConstants.{READS_FIRST, READS_SECOND}
 use Rattle.kpn_signals.specs.Words.{word_below, bound}
 use Rattle.kpn_signals.specs.Shapes.{Admitted}
-use Rattle.kpn_signals.specs.Arithmetic.{sub_join, mul_join, shift_step, left_step, scale_step}
-use Rattle.kpn_signals.specs.Logic.{less_join, equal_join, not_step, and_join, or_join}
-use Rattle.kpn_signals.specs.Ends.{prefix_answer}
-use Rattle.kpn_signals.specs.Rates.{decimate_answer, repeat_answer}
-use Rattle.kpn_signals.specs.Filters.{choice, hold_join, delay_step, low_pass_step, clip_step}
-use Rattle.kpn_signals.specs.Table.{row_of, numbered}
+use Rattle.kpn_signals.specs.Arithmetic.{sub_join, mul_join, shift_step, left_step, scale_step, min_join, max_join, abs_step, offset_step, gain_step, div_join, mod_join}
+use Rattle.kpn_signals.specs.Logic.{less_join, equal_join, not_step, and_join, or_join, edge_step}
+use Rattle.kpn_signals.specs.Ends.{copy_flags_answer, prefix_answer}
+use Rattle.kpn_signals.specs.Rates.{decimate_answer, repeat_answer, gate_answer}
+use Rattle.kpn_signals.specs.Noise.{moved}
+use Rattle.kpn_signals.specs.Filters.{choice, hold_join, delay_step, low_pass_step, clip_step, sum_step, difference_step, average_step, counter_step}
+use Rattle.kpn_signals.specs.Table.{two_flags, row_of, numbered}
 use Rattle.kpn_signals.specs.Signatures.{accepts, signature_of_kind, ports}
 use Rattle.kpn_signals.specs.Family.{answer_of, start_of, signals}
-use Rattle.kpn_signals.proofs.Numbers.{local_word, below_fits, bound_fits, right_shift_fits, next_level_fits, nearest_fits}
-use Rattle.kpn_signals.proofs.Laws.{IsLawful, by_flag, stops, reads, writes, step_lawful, join_lawful}
+use Rattle.kpn_signals.proofs.Numbers.{local_word, below_fits, bound_fits, right_shift_fits, next_level_fits, nearest_fits, least_fits, greatest_fits, size_fits, wrapped_fits, quotient_fits, mixed_fits}
+use Rattle.kpn_signals.proofs.Laws.{IsLawful, by_flag, number_fits, got_fits, stops, reads, writes, step_lawful, join_lawful}
 
 -- the word of a token that fits
 word_fits : (t : Token) → Fits t → word t < 2 ^ 64
@@ -79,6 +81,30 @@ module _ (card : Card) (s : Signature) (is : ports card ≡ Some s) where
   prefix_lawful v small ins outs l (Some t) fits last_fits =
       writes card s is _ 0 _ (omega arith) (word_fits t last_fits) (rw outs refl) (omega arith, omega arith, omega arith, omega arith)
 
+  -- copy_flags, whose card has an input and two outputs of flags
+  copy_flags_lawful : s.ins ≡ one_flag → s.outs ≡ two_flags → (l : List ℕ) (last : Option Token) → IsLocal l → LastFits last → IsLawful card (copy_flags_answer l last)
+  copy_flags_lawful ins outs l None fits last_fits =
+      by_flag (λ a. IsLawful card a) (at l 0 == 0) _ _
+      (reads card s is _ 0 (omega arith) (rw ins refl) (omega arith, omega arith, omega arith, omega arith))
+      (writes card s is _ 1 _ (omega arith) tt (rw outs refl) (omega arith, omega arith, omega arith, omega arith))
+  copy_flags_lawful ins outs l (Some t) fits last_fits =
+      writes card s is _ 0 _ (omega arith) tt (rw outs refl) (omega arith, number_fits (Flag (flag t)) tt, omega arith, omega arith)
+
+  -- gate, whose card has an input of words, one of flags and an output of words
+  gate_lawful : s.ins ≡ word_and_flag → s.outs ≡ one_word → (l : List ℕ) (last : Option Token) → IsLocal l → LastFits last → IsLawful card (gate_answer l last)
+  gate_lawful ins outs l last fits last_fits =
+      by_flag (λ a. IsLawful card a) (at l 0 == READS_FIRST) _ _
+      (reads card s is _ 0 (omega arith) (rw ins refl) (omega arith, omega arith, omega arith, omega arith))
+      (by_flag (λ a. IsLawful card a) (at l 0 == READS_SECOND) _ _
+      (reads card s is _ 1 (omega arith) (rw ins refl) (omega arith, word_fits (got last) (got_fits last last_fits), omega arith, omega arith))
+      (by_flag (λ a. IsLawful card a) (flag (got last)) _ _
+      (writes card s is _ 0 _ (omega arith) (local_word l 1 fits) (rw outs refl) (omega arith, omega arith, omega arith, omega arith))
+      (reads card s is _ 0 (omega arith) (rw ins refl) (omega arith, omega arith, omega arith, omega arith))))
+
+-- a local state of one word
+one_fits : (n : ℕ) → n < 2 ^ 64 → IsLocal (one n)
+one_fits n small = (small, omega arith, omega arith, omega arith)
+
 -- an answer of each kind is lawful
 kind_lawful : (kind : Signal) (card : Card) → CardFits card → numbered card.kind ≡ Some kind → accepts kind card.args ≡ true → AnswersWell kind card
 kind_lawful Input card small is taken = λ l last fits last_fits. stops card l
@@ -120,11 +146,41 @@ kind_lawful SignedClip card small is taken =
 kind_lawful SignedScale card small is taken =
     step_lawful card _ (has_ports SignedScale card is taken) (scale_step (word_below (at card.args 0))) refl (λ kept t kept_fits fits. (kept_fits, omega arith, refl))
 kind_lawful SignedPrefix card small is taken = prefix_lawful card _ (has_ports SignedPrefix card is taken) (word_below (at card.args 0)) (below_fits (at card.args 0)) refl refl
+kind_lawful CopyFlags card small is taken = copy_flags_lawful card _ (has_ports CopyFlags card is taken) refl refl
+kind_lawful Min card small is taken =
+    join_lawful card _ (has_ports Min card is taken) min_join refl refl (λ kept x t kept_fits x_fits fits. (kept_fits, least_fits x (word t) x_fits (word_fits t fits), refl))
+kind_lawful Max card small is taken =
+    join_lawful card _ (has_ports Max card is taken) max_join refl refl (λ kept x t kept_fits x_fits fits. (kept_fits, greatest_fits x (word t) x_fits (word_fits t fits), refl))
+kind_lawful Abs card small is taken = step_lawful card _ (has_ports Abs card is taken) abs_step refl (λ kept t kept_fits fits. (kept_fits, size_fits (word t) (word_fits t fits), refl))
+kind_lawful Offset card small is taken = step_lawful card _ (has_ports Offset card is taken) (offset_step (at card.args 0)) refl (λ kept t kept_fits fits. (kept_fits, omega arith, refl))
+kind_lawful Gain card small is taken =
+    step_lawful card _ (has_ports Gain card is taken) (gain_step (at card.args 0) (at card.args 1)) refl (λ kept t kept_fits fits. (kept_fits, wrapped_fits _, refl))
+kind_lawful Div card small is taken = join_lawful card _ (has_ports Div card is taken) div_join refl refl (λ kept x t kept_fits x_fits fits. (kept_fits, quotient_fits x (word t), refl))
+kind_lawful Mod card small is taken = join_lawful card _ (has_ports Mod card is taken) mod_join refl refl (λ kept x t kept_fits x_fits fits. (kept_fits, omega arith, refl))
+kind_lawful Sum card small is taken =
+    step_lawful card _ (has_ports Sum card is taken) sum_step refl (λ kept t kept_fits fits. (one_fits _ (omega arith), omega arith, refl))
+kind_lawful Difference card small is taken =
+    step_lawful card _ (has_ports Difference card is taken) difference_step refl (λ kept t kept_fits fits. (one_fits _ (word_fits t fits), omega arith, refl))
+kind_lawful Average card small is taken =
+    step_lawful card _ (has_ports Average card is taken) (average_step (at card.args 0)) refl
+    (λ kept t kept_fits fits. ((word_fits t fits, local_word kept 0 kept_fits, local_word kept 1 kept_fits, local_word kept 2 kept_fits), wrapped_fits _, refl))
+kind_lawful Counter card small is taken =
+    step_lawful card _ (has_ports Counter card is taken) counter_step refl (λ kept t kept_fits fits. (one_fits _ (omega arith), omega arith, refl))
+kind_lawful Edge card small is taken =
+    step_lawful card _ (has_ports Edge card is taken) edge_step refl (λ kept t kept_fits fits. (one_fits _ (number_fits (Flag (flag t)) tt), tt, refl))
+kind_lawful Noise card small is taken =
+    λ l last fits last_fits. writes card _ (has_ports Noise card is taken) _ 0 _ (omega arith) (mixed_fits (moved (at l 0))) refl (omega arith, omega arith, omega arith, omega arith)
+kind_lawful Gate card small is taken = gate_lawful card _ (has_ports Gate card is taken) refl refl
+kind_lawful SignedOffset card small is taken =
+    step_lawful card _ (has_ports SignedOffset card is taken) (offset_step (word_below (at card.args 0))) refl (λ kept t kept_fits fits. (kept_fits, omega arith, refl))
+kind_lawful SignedGain card small is taken =
+    step_lawful card _ (has_ports SignedGain card is taken) (gain_step (word_below (at card.args 0)) (at card.args 1)) refl (λ kept t kept_fits fits. (kept_fits, wrapped_fits _, refl))
 
 -- the start of each kind is a local state
 start_fits : (kind : Signal) (args : List ℕ) → at args 0 < 2 ^ 64 → IsLocal (start_of kind args)
 start_fits Hold args small = (omega arith, omega arith, small, omega arith)
 start_fits SignedHold args small = (omega arith, omega arith, below_fits (at args 0), omega arith)
+start_fits Noise args small = (small, omega arith, omega arith, omega arith)
 start_fits _ args small = (omega arith, omega arith, omega arith, omega arith)
 
 -- a card that has ports is of a kind that accepts its arguments

@@ -25,7 +25,7 @@ by_flag P true a b p q = p
 by_flag P false a b p q = q
 
 -- a token that fits is a number of 64 bits
-number_fits : (token : Token) → Fits token → number_of token < 2 ^ 64
+pub number_fits : (token : Token) → Fits token → number_of token < 2 ^ 64
 number_fits (Word n) fits = fits
 number_fits (Flag true) fits = omega arith
 number_fits (Flag false) fits = omega arith

@@ -1,14 +1,15 @@
 -- What the kinds write and keep are words.
-use Rattle.std.proofs.Common.{◌≡◌, ◌∙◌, ℕ, zero, suc, ◌<◌, ◌^◌, ◌==◌, Bool, true, false, if◌then◌else◌, ℤ, pos, negsuc, ◌+ℤ◌, ◌-ℤ◌, List, [], ◌∷◌, refl, subst, sym, ap, arith}
-use Rattle.std.specs.Prelude.{FitsSigned}
+use Rattle.std.proofs.Common.{◌≡◌, ◌∙◌, ℕ, zero, suc, ◌<◌, ◌≤◌, ◌/◌, ◌^◌, ◌==◌, Bool, true, false, if◌then◌else◌, ℤ, pos, negsuc, ◌+ℤ◌, ◌-ℤ◌, ◌*ℤ◌, List, [], ◌∷◌, refl, subst, sym, ap, arith}
+use Rattle.std.specs.Prelude.{FitsSigned, unsigned_abs}
 use Rattle.std.specs.Int.{w64, w128, int_shr}
 use Rattle.std.specs.Int.Signed.{shr_z, mag_shr}
-use Rattle.std.proofs.lemmas.Int.{ints, clamps, to_z-of_z}
+use Rattle.std.proofs.lemmas.Int.{ints, clamps, to_z-of_z, fits_signed_from_abs, fits_signed_mul}
 use mir.Val.{to_z, of_z}
-use Rattle.std.proofs.lemmas.Nat.{shr_le}
+use Rattle.std.proofs.lemmas.Nat.{shr_le, xor_lt}
 use Rattle.kpn_standard.specs.Locals.{at, IsLocal}
-use Rattle.kpn_signals.specs.Words.{signed, word_of, word_below, bound}
-use Rattle.kpn_signals.specs.Arithmetic.{right_shift}
+use Rattle.kpn_signals.specs.Words.{signed, word_of, wrapped, floor_div, word_below, bound}
+use Rattle.kpn_signals.specs.Arithmetic.{right_shift, least, greatest, amplified, quotient}
+use Rattle.kpn_signals.specs.Noise.{shaken, mixed}
 use Rattle.kpn_signals.specs.Filters.{next_level, nearest}
 
 -- each of the four numbers of a local state is a word
@@ -46,6 +47,37 @@ signed_fits w small = omega (arith, ints)
 
 pub right_shift_fits : (k w : ℕ) → w < 2 ^ 64 → right_shift k w < 2 ^ 64
 right_shift_fits k w small = let fits = signed_fits w small in word_fits (int_shr (signed w) k) (record { sfits = omega (arith, mag_shr (signed w) (2 ^ k), fits.sfits) })
+
+pub least_fits : (x y : ℕ) → x < 2 ^ 64 → y < 2 ^ 64 → least x y < 2 ^ 64
+least_fits x y x_small y_small = omega (arith, ints, clamps)
+
+pub greatest_fits : (x y : ℕ) → x < 2 ^ 64 → y < 2 ^ 64 → greatest x y < 2 ^ 64
+greatest_fits x y x_small y_small = omega (arith, ints, clamps)
+
+pub size_fits : (w : ℕ) → w < 2 ^ 64 → unsigned_abs (signed w) < 2 ^ 64
+size_fits w small = sized (signed w) (signed_fits w small)
+  where
+    sized : (z : ℤ) → FitsSigned w64 z → unsigned_abs z < 2 ^ 64
+    sized (pos n) fits = omega (arith, fits.sfits)
+    sized (negsuc n) fits = omega (arith, fits.sfits)
+
+pub wrapped_fits : (z : ℤ) → wrapped z < 2 ^ 64
+wrapped_fits (pos n) = omega arith
+wrapped_fits (negsuc n) = omega arith
+
+chosen_word_fits : (b : Bool) (n : ℕ) → n < 2 ^ 64 → (if b then 0 else n) < 2 ^ 64
+chosen_word_fits true n small = omega arith
+chosen_word_fits false n small = small
+
+pub quotient_fits : (x d : ℕ) → quotient x d < 2 ^ 64
+quotient_fits x d = chosen_word_fits (d == 0) _ (wrapped_fits (floor_div (signed x) (signed d)))
+
+-- a word made of two words
+shaken_fits : (k w : ℕ) → w < 2 ^ 64 → shaken k w < 2 ^ 64
+shaken_fits k w small = xor_lt 64 w (w / 2 ^ k) small (omega (arith, shr_le w k))
+
+pub mixed_fits : (s : ℕ) → mixed s < 2 ^ 64
+mixed_fits s = shaken_fits 31 _ (omega arith)
 
 pub nearest_fits : (lo hi w : ℕ) → lo < 2 ^ 64 → hi < 2 ^ 64 → w < 2 ^ 64 → nearest lo hi w < 2 ^ 64
 nearest_fits lo hi w lo_small hi_small small = omega (arith, ints, clamps)
@@ -119,3 +151,24 @@ module _ (k level word : ℕ) (level_small : level < 2 ^ 64) (word_small : word 
 
   pub level_is : (r : ℕ) → r ≡ of_z w64 (to_z w64 (of_z w64 (wide (wide y +ℤ wide (shr_z (wide (wide x -ℤ wide y)) (2 ^ k)))))) → r ≡ next_level k level word
   level_is r is = is ∙ ap (λ (z : ℤ). of_z w64 (to_z w64 (of_z w64 z))) exact ∙ ap (λ (z : ℤ). of_z w64 z) (to_z-of_z w64 _ next_fits)
+
+-- a product of two words that were cast is exact
+wide_product : (x y : ℤ) → unsigned_abs x ≤ 2 ^ 63 → unsigned_abs y ≤ 2 ^ 63 → wide (wide x *ℤ wide y) ≡ x *ℤ y
+wide_product x y x_small y_small =
+    let x_fits = fits_signed_from_abs w128 x (omega arith) in
+    let y_fits = fits_signed_from_abs w128 y (omega arith) in
+    rw (to_z-of_z w128 x x_fits, to_z-of_z w128 y y_fits) (to_z-of_z w128 (x *ℤ y) (fits_signed_mul w128 x y (2 ^ 63) (2 ^ 63) x_small y_small (omega arith)))
+
+-- so the product, divided, is what is defined
+pub amplified_is :
+    (a b w : ℕ) (x y n q : ℤ) (r : ℕ) → x ≡ signed w → unsigned_abs x ≤ 2 ^ 63 → y ≡ signed a → unsigned_abs y ≤ 2 ^ 63 → n ≡ pos b → FitsSigned w128 n
+    → q ≡ floor_div (wide (wide x *ℤ wide y)) (wide n) → FitsSigned w128 q → r ≡ wrapped (wide q) → r ≡ amplified a b w
+amplified_is a b w x y n q r x_is x_small y_is y_small n_is n_fits q_is q_fits r_is =
+    r_is
+    ∙ ap (λ (z : ℤ). wrapped z) (to_z-of_z w128 q q_fits)
+    ∙ ap (λ (z : ℤ). wrapped z) q_is
+    ∙ ap (λ (z : ℤ). wrapped (floor_div z (wide n))) (wide_product x y x_small y_small)
+    ∙ ap (λ (z : ℤ). wrapped (floor_div (x *ℤ y) z)) (to_z-of_z w128 n n_fits)
+    ∙ ap (λ (z : ℤ). wrapped (floor_div (x *ℤ y) z)) n_is
+    ∙ ap (λ (z : ℤ). wrapped (floor_div (z *ℤ y) (pos b))) x_is
+    ∙ ap (λ (z : ℤ). wrapped (floor_div (signed w *ℤ z) (pos b))) y_is

@@ -7,14 +7,15 @@ use Rattle.kpn_model.specs.Network.{Family}
 use Rattle.kpn_standard.specs.Locals.{at, one, three, stays}
 use Rattle.kpn_signals.specs.declared.turns.TheConstants.{READS_FIRST}
 use Rattle.kpn_signals.specs.declared.signal.Signal.{Signal}
-use Rattle.kpn_signals.specs.declared.signal.Signal.TheVariants.{Input, InputFlags, Drain, DrainFlags, Constant, CountUp, Sub, Mul, Shift, Left, Less, Equal, Not, And, Or, Decimate, Repeat, Hold, Delay, LowPass, Clip, SignedConstant, SignedHold, SignedClip, SignedScale, SignedPrefix}
+use Rattle.kpn_signals.specs.declared.signal.Signal.TheVariants.{Input, InputFlags, Drain, DrainFlags, Constant, CountUp, Sub, Mul, Shift, Left, Less, Equal, Not, And, Or, Decimate, Repeat, Hold, Delay, LowPass, Clip, SignedConstant, SignedHold, SignedClip, SignedScale, SignedPrefix, CopyFlags, Min, Max, Abs, Offset, Gain, Div, Mod, Sum, Difference, Average, Counter, Edge, Noise, Gate, SignedOffset, SignedGain}
 use Rattle.kpn_signals.specs.Words.{word_below, bound}
 use Rattle.kpn_signals.specs.Shapes.{step_answer, join_answer}
-use Rattle.kpn_signals.specs.Ends.{input_answer, drain_answer, constant_answer, count_up_answer, prefix_answer}
-use Rattle.kpn_signals.specs.Arithmetic.{sub_join, mul_join, shift_step, left_step, scale_step}
-use Rattle.kpn_signals.specs.Logic.{less_join, equal_join, not_step, and_join, or_join}
-use Rattle.kpn_signals.specs.Rates.{decimate_answer, repeat_answer}
-use Rattle.kpn_signals.specs.Filters.{hold_join, delay_step, low_pass_step, clip_step}
+use Rattle.kpn_signals.specs.Ends.{input_answer, drain_answer, constant_answer, count_up_answer, copy_flags_answer, prefix_answer}
+use Rattle.kpn_signals.specs.Arithmetic.{sub_join, mul_join, shift_step, left_step, scale_step, min_join, max_join, abs_step, offset_step, gain_step, div_join, mod_join}
+use Rattle.kpn_signals.specs.Logic.{less_join, equal_join, not_step, and_join, or_join, edge_step}
+use Rattle.kpn_signals.specs.Rates.{decimate_answer, repeat_answer, gate_answer}
+use Rattle.kpn_signals.specs.Noise.{noise_answer}
+use Rattle.kpn_signals.specs.Filters.{hold_join, delay_step, low_pass_step, clip_step, sum_step, difference_step, average_step, counter_step}
 use Rattle.kpn_signals.specs.Table.{numbered}
 
 abbrev pub answer_of : Signal → List ℕ → List ℕ → Option Token → Answer
@@ -44,11 +45,29 @@ answer_of SignedHold args l last = join_answer hold_join l last
 answer_of SignedClip args l last = step_answer (clip_step (word_below (at args 0)) (bound (at args 1) (at args 2))) l last
 answer_of SignedScale args l last = step_answer (scale_step (word_below (at args 0))) l last
 answer_of SignedPrefix args l last = prefix_answer (word_below (at args 0)) l last
+answer_of CopyFlags args l last = copy_flags_answer l last
+answer_of Min args l last = join_answer min_join l last
+answer_of Max args l last = join_answer max_join l last
+answer_of Abs args l last = step_answer abs_step l last
+answer_of Offset args l last = step_answer (offset_step (at args 0)) l last
+answer_of Gain args l last = step_answer (gain_step (at args 0) (at args 1)) l last
+answer_of Div args l last = join_answer div_join l last
+answer_of Mod args l last = join_answer mod_join l last
+answer_of Sum args l last = step_answer sum_step l last
+answer_of Difference args l last = step_answer difference_step l last
+answer_of Average args l last = step_answer (average_step (at args 0)) l last
+answer_of Counter args l last = step_answer counter_step l last
+answer_of Edge args l last = step_answer edge_step l last
+answer_of Noise args l last = noise_answer l
+answer_of Gate args l last = gate_answer l last
+answer_of SignedOffset args l last = step_answer (offset_step (word_below (at args 0))) l last
+answer_of SignedGain args l last = step_answer (gain_step (word_below (at args 0)) (at args 1)) l last
 
--- hold keeps its argument, all else is 0
+-- hold and noise keep their argument, all else is 0
 abbrev pub start_of : Signal → List ℕ → List ℕ
 start_of Hold args = three READS_FIRST 0 (at args 0)
 start_of SignedHold args = three READS_FIRST 0 (word_below (at args 0))
+start_of Noise args = one (at args 0)
 start_of _ args = one 0
 
 -- a card of no kind stops

@@ -4,6 +4,7 @@ pub mod Ends
 pub mod Arithmetic
 pub mod Logic
 pub mod Rates
+pub mod Noise
 pub mod Filters
 pub mod Table
 pub mod Signatures

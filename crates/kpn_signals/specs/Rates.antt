@@ -4,7 +4,8 @@ use Rattle.kpn_model.specs.declared.token.Token.{Token}
 use Rattle.kpn_model.specs.declared.token.Token.TheVariants.{Word}
 use Rattle.kpn_model.specs.declared.kinds.Act.TheVariants.{Read, Write}
 use Rattle.kpn_model.specs.declared.kinds.Answer.{Answer}
-use Rattle.kpn_standard.specs.Locals.{at, says, word}
+use Rattle.kpn_standard.specs.Locals.{at, got, says, word, flag}
+use Rattle.kpn_signals.specs.declared.turns.TheConstants.{READS_FIRST, READS_SECOND, WRITES}
 
 -- decimate: writes the first of each n words; p words are still to be skipped
 --     [p]            none  [p]       read input 0
@@ -21,3 +22,14 @@ decimate_answer n l (Some t) = if at l 0 == 0 then says (n - 1) 0 0 (Write 0 (Wo
 abbrev pub repeat_answer : ℕ → List ℕ → Option Token → Answer
 repeat_answer n l None = if at l 0 == 0 then says 0 (at l 1) 0 (Read 0) else says (at l 0 - 1) (at l 1) 0 (Write 0 (Word (at l 1)))
 repeat_answer n l (Some t) = says (n - 1) (word t) 0 (Write 0 (Word (word t)))
+
+-- gate: reads a word of input 0 and a flag of input 1, and writes the word if the flag is true
+--     [READS_FIRST]    none   [READS_SECOND]   read input 0
+--     [READS_SECOND]   x      [WRITES, x]      read input 1
+--     [WRITES, x]      true   [READS_FIRST]    write x to output 0
+--     [WRITES, x]      false  [READS_SECOND]   read input 0
+abbrev pub gate_answer : List ℕ → Option Token → Answer
+gate_answer l last =
+    if at l 0 == READS_FIRST then says READS_SECOND 0 0 (Read 0) else
+    if at l 0 == READS_SECOND then says WRITES (word (got last)) 0 (Read 1) else
+    if flag (got last) then says READS_FIRST 0 0 (Write 0 (Word (at l 1))) else says READS_SECOND 0 0 (Read 0)

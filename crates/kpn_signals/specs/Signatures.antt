@@ -5,7 +5,7 @@ use Rattle.kpn_model.specs.declared.kinds.Signature.{Signature}
 use Rattle.kpn_standard.specs.Locals.{at}
 use Rattle.kpn_standard.specs.Signatures.{are_used, given}
 use Rattle.kpn_signals.specs.declared.signal.Signal.{Signal}
-use Rattle.kpn_signals.specs.declared.signal.Signal.TheVariants.{Shift, Left, LowPass, Decimate, Repeat, Delay, Clip, SignedConstant, SignedHold, SignedClip, SignedScale, SignedPrefix}
+use Rattle.kpn_signals.specs.declared.signal.Signal.TheVariants.{Shift, Left, LowPass, Decimate, Repeat, Delay, Clip, SignedConstant, SignedHold, SignedClip, SignedScale, SignedPrefix, Gain, Average, SignedOffset, SignedGain}
 use Rattle.kpn_signals.specs.Words.{signed, word_below, bound}
 use Rattle.kpn_signals.specs.Table.{row_of, numbered, called}
 
@@ -38,10 +38,15 @@ suit SignedHold args = is_one_below args
 suit SignedScale args = is_one_below args
 suit SignedPrefix args = is_one_below args
 suit SignedClip args = are_bounds (at args 0) (at args 1) (at args 2)
+suit Gain args = nat_lt 0 (at args 1)
+suit Average args = nat_lt 0 (at args 0) && nat_lt (at args 0) 6
+suit SignedOffset args = is_one_below args
+suit SignedGain args = is_below (at args 0) && (nat_lt 0 (at args 1) && (at args 2 == 1))
 suit _ args = true
 
 abbrev pub are_own : Signal → List ℕ → Bool
 are_own SignedClip args = true
+are_own SignedGain args = true
 are_own kind args = are_used (row_of kind).arguments args
 
 abbrev pub accepts : Signal → List ℕ → Bool

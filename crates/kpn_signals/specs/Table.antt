@@ -6,7 +6,7 @@ use Rattle.kpn_model.specs.declared.token.Sort.{Sort}
 use Rattle.kpn_model.specs.declared.token.Sort.TheVariants.{Flags}
 use Rattle.kpn_standard.specs.Table.{Row, tabled, no_port, one_word, two_words, one_flag, word_and_flag}
 use Rattle.kpn_signals.specs.declared.signal.Signal.{Signal}
-use Rattle.kpn_signals.specs.declared.signal.Signal.TheVariants.{Input, InputFlags, Drain, DrainFlags, Constant, CountUp, Sub, Mul, Shift, Left, Less, Equal, Not, And, Or, Decimate, Repeat, Hold, Delay, LowPass, Clip, SignedConstant, SignedHold, SignedClip, SignedScale, SignedPrefix}
+use Rattle.kpn_signals.specs.declared.signal.Signal.TheVariants.{Input, InputFlags, Drain, DrainFlags, Constant, CountUp, Sub, Mul, Shift, Left, Less, Equal, Not, And, Or, Decimate, Repeat, Hold, Delay, LowPass, Clip, SignedConstant, SignedHold, SignedClip, SignedScale, SignedPrefix, CopyFlags, Min, Max, Abs, Offset, Gain, Div, Mod, Sum, Difference, Average, Counter, Edge, Noise, Gate, SignedOffset, SignedGain}
 
 abbrev pub two_flags : List (Option Sort)
 two_flags = Some Flags ∷ Some Flags ∷ None ∷ []
@@ -38,6 +38,23 @@ row_of SignedHold = tabled 22 (codes "hold, signed") 2 word_and_flag one_word
 row_of SignedClip = tabled 23 (codes "clip, signed") 3 one_word one_word
 row_of SignedScale = tabled 24 (codes "scale, signed") 2 one_word one_word
 row_of SignedPrefix = tabled 25 (codes "prefix, signed") 2 one_word one_word
+row_of CopyFlags = tabled 26 (codes "copy_flags") 0 one_flag two_flags
+row_of Min = tabled 27 (codes "min") 0 two_words one_word
+row_of Max = tabled 28 (codes "max") 0 two_words one_word
+row_of Abs = tabled 29 (codes "abs") 0 one_word one_word
+row_of Offset = tabled 30 (codes "offset") 1 one_word one_word
+row_of Gain = tabled 31 (codes "gain") 2 one_word one_word
+row_of Div = tabled 32 (codes "div") 0 two_words one_word
+row_of Mod = tabled 33 (codes "mod") 0 two_words one_word
+row_of Sum = tabled 34 (codes "sum") 0 one_word one_word
+row_of Difference = tabled 35 (codes "difference") 0 one_word one_word
+row_of Average = tabled 36 (codes "average") 1 one_word one_word
+row_of Counter = tabled 37 (codes "counter") 0 one_flag one_word
+row_of Edge = tabled 38 (codes "edge") 0 one_flag one_flag
+row_of Noise = tabled 39 (codes "noise") 1 no_port one_word
+row_of Gate = tabled 40 (codes "gate") 0 word_and_flag one_word
+row_of SignedOffset = tabled 41 (codes "offset, signed") 2 one_word one_word
+row_of SignedGain = tabled 42 (codes "gain, signed") 3 one_word one_word
 
 -- a kind's name in descriptions, and its number of arguments there: its own, unless arguments are negative
 abbrev pub called_by : Signal → List ℕ × ℕ
@@ -46,10 +63,12 @@ called_by SignedHold = (codes "hold", 1)
 called_by SignedClip = (codes "clip", 2)
 called_by SignedScale = (codes "scale", 1)
 called_by SignedPrefix = (codes "prefix", 1)
+called_by SignedOffset = (codes "offset", 1)
+called_by SignedGain = (codes "gain", 2)
 called_by kind = ((row_of kind).name, (row_of kind).arguments)
 
 abbrev pub all_kinds : List Signal
-all_kinds = Input ∷ InputFlags ∷ Drain ∷ DrainFlags ∷ Constant ∷ CountUp ∷ Sub ∷ Mul ∷ Shift ∷ Left ∷ Less ∷ Equal ∷ Not ∷ And ∷ Or ∷ Decimate ∷ Repeat ∷ Hold ∷ Delay ∷ LowPass ∷ Clip ∷ SignedConstant ∷ SignedHold ∷ SignedClip ∷ SignedScale ∷ SignedPrefix ∷ []
+all_kinds = Input ∷ InputFlags ∷ Drain ∷ DrainFlags ∷ Constant ∷ CountUp ∷ Sub ∷ Mul ∷ Shift ∷ Left ∷ Less ∷ Equal ∷ Not ∷ And ∷ Or ∷ Decimate ∷ Repeat ∷ Hold ∷ Delay ∷ LowPass ∷ Clip ∷ SignedConstant ∷ SignedHold ∷ SignedClip ∷ SignedScale ∷ SignedPrefix ∷ CopyFlags ∷ Min ∷ Max ∷ Abs ∷ Offset ∷ Gain ∷ Div ∷ Mod ∷ Sum ∷ Difference ∷ Average ∷ Counter ∷ Edge ∷ Noise ∷ Gate ∷ SignedOffset ∷ SignedGain ∷ []
 
 abbrev pub numbered : ℕ → Option Signal
 numbered number = find (λ kind. number == (row_of kind).number) all_kinds

@@ -3,11 +3,14 @@ ghost use Rattle.std.specs.Prelude.{◌≡◌, true};
 ghost use Rattle.kpn_signals.specs.Family.{answer_of};
 ghost use Rattle.kpn_signals.specs.Signatures.{accepts};
 
-use crate::arithmetic::{left, mul, scale, shift, sub};
-use crate::ends::{constant, count_up, prefix};
-use crate::filters::{clip, delay, hold, low_pass};
-use crate::logic::{and, equal, less, not, or};
-use crate::rates::{decimate, repeat};
+use crate::arithmetic::{
+    abs, div, gain, left, max, min, mul, offset, remainder, scale, shift, sub,
+};
+use crate::ends::{constant, copy_flags, count_up, prefix};
+use crate::filters::{average, clip, counter, delay, difference, hold, low_pass, sum};
+use crate::logic::{and, edge, equal, less, not, or};
+use crate::noise::noise;
+use crate::rates::{decimate, gate, repeat};
 use crate::signal::Signal;
 use crate::signs::{bound, word_below};
 use crate::turns::{reads, stops};
@@ -46,5 +49,22 @@ pub fn answer(kind: Signal, args: [u64; 3], local: Local, last: Option<Token>) -
         Signal::SignedClip => clip(word_below(a), bound(b, c), local, last),
         Signal::SignedScale => scale(word_below(a), local, last),
         Signal::SignedPrefix => prefix(word_below(a), local, last),
+        Signal::CopyFlags => copy_flags(local, last),
+        Signal::Min => min(local, last),
+        Signal::Max => max(local, last),
+        Signal::Abs => abs(local, last),
+        Signal::Offset => offset(a, local, last),
+        Signal::Gain => gain(a, b, local, last),
+        Signal::Div => div(local, last),
+        Signal::Mod => remainder(local, last),
+        Signal::Sum => sum(local, last),
+        Signal::Difference => difference(local, last),
+        Signal::Average => average(a, local, last),
+        Signal::Counter => counter(local, last),
+        Signal::Edge => edge(local, last),
+        Signal::Noise => noise(local),
+        Signal::Gate => gate(local, last),
+        Signal::SignedOffset => offset(word_below(a), local, last),
+        Signal::SignedGain => gain(word_below(a), b, local, last),
     }
 }

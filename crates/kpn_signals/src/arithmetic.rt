@@ -1,9 +1,11 @@
 //! The kinds that compute words: each function returns its kind's answer.
-ghost use Rattle.std.specs.Prelude.{◌≡◌, ◌<◌};
+ghost use Rattle.std.specs.Prelude.{◌≡◌, ◌<◌, ◌≤◌, ◌^◌, ◌≢◌, pos, unsigned_abs};
 ghost use Rattle.kpn_signals.specs.Shapes.{step_answer, join_answer};
-ghost use Rattle.kpn_signals.specs.Arithmetic.{sub_join, mul_join, right_shift, scale_step, shift_step, left_step};
+ghost use Rattle.kpn_signals.specs.Words.{signed};
+ghost use Rattle.kpn_signals.specs.Arithmetic.{sub_join, mul_join, right_shift, scale_step, shift_step, left_step, min_join, max_join, abs_step, offset_step, amplified, gain_step, quotient, div_join, mod_join};
 
 use crate::turns::{joined, latest, reads, word, writes_word};
+use crate::wide::{floor_div, signed, wrapped};
 use kpn_model::{Answer, Local, Token};
 
 /// Reads two words, and writes the first minus the second modulo 2^64, forever.
@@ -58,4 +60,95 @@ fn right_shift(bits: u64, word: u64) -> u64
     ensures { result ≡ right_shift bits word }
 {
     (word.cast_signed() >> bits).cast_unsigned()
+}
+
+/// Reads two words, and writes the lesser one, signed, forever.
+pub(crate) fn min(local: Local, last: Option<Token>) -> Answer
+    ensures { result ≡ join_answer min_join local last }
+{
+    let [_, first, kept, _] = local;
+    let second = word(latest(last)).cast_signed();
+    let least = first.cast_signed().min(second).cast_unsigned();
+    joined(local, last, kept, Token::Word(least))
+}
+
+/// Reads two words, and writes the greater one, signed, forever.
+pub(crate) fn max(local: Local, last: Option<Token>) -> Answer
+    ensures { result ≡ join_answer max_join local last }
+{
+    let [_, first, kept, _] = local;
+    let second = word(latest(last)).cast_signed();
+    let greatest = first.cast_signed().max(second).cast_unsigned();
+    joined(local, last, kept, Token::Word(greatest))
+}
+
+/// Reads a word, and writes its absolute value, forever.
+pub(crate) fn abs(local: Local, last: Option<Token>) -> Answer
+    ensures { result ≡ step_answer abs_step local last }
+{
+    match last {
+        None => reads(local),
+        Some(token) => writes_word(local, word(token).cast_signed().unsigned_abs()),
+    }
+}
+
+/// Reads a word, and writes it plus `by`, modulo 2^64, forever.
+pub(crate) fn offset(by: u64, local: Local, last: Option<Token>) -> Answer
+    ensures { result ≡ step_answer (offset_step by) local last }
+{
+    match last {
+        None => reads(local),
+        Some(token) => writes_word(local, word(token).wrapping_add(by)),
+    }
+}
+
+/// Reads a word, and writes its product with `factor`, both signed, divided by `divisor` and rounded down,
+/// forever. Only the result is modulo 2^64.
+pub(crate) fn gain(factor: u64, divisor: u64, local: Local, last: Option<Token>) -> Answer
+    requires { 0 < divisor }
+    ensures { result ≡ step_answer (gain_step factor divisor) local last }
+{
+    match last {
+        None => reads(local),
+        Some(token) => writes_word(local, amplified(factor, divisor, word(token))),
+    }
+}
+
+fn amplified(factor: u64, divisor: u64, word: u64) -> u64
+    requires { 0 < divisor }
+    ensures { result ≡ amplified factor divisor word }
+{
+    let product = signed(word) * signed(factor);
+    wrapped(floor_div(product, i128::from(divisor)))
+}
+
+/// Reads two words, and writes the first divided by the second, rounded down, signed, forever: 0 if the
+/// second is 0.
+pub(crate) fn div(local: Local, last: Option<Token>) -> Answer
+    ensures { result ≡ join_answer div_join local last }
+{
+    let [_, first, kept, _] = local;
+    let quotient = quotient(first, word(latest(last)));
+    joined(local, last, kept, Token::Word(quotient))
+}
+
+/// Reads two words, and writes what their quotient leaves of the first, forever: it has the sign of the second,
+/// and is the first if the second is 0.
+pub(crate) fn remainder(local: Local, last: Option<Token>) -> Answer
+    ensures { result ≡ join_answer mod_join local last }
+{
+    let [_, first, kept, _] = local;
+    let divisor = word(latest(last));
+    let whole = divisor.wrapping_mul(quotient(first, divisor));
+    joined(local, last, kept, Token::Word(first.wrapping_sub(whole)))
+}
+
+fn quotient(word: u64, divisor: u64) -> u64
+    ensures { result ≡ quotient word divisor }
+{
+    if divisor == 0 {
+        0
+    } else {
+        wrapped(floor_div(signed(word), signed(divisor)))
+    }
 }

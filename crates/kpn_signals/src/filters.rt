@@ -1,10 +1,11 @@
 //! The kinds that keep words, and one that clips them: each function returns its kind's answer.
-ghost use Rattle.std.specs.Prelude.{◌≡◌, ◌<◌, ◌≤◌, ◌≤ℤ◌};
+ghost use Rattle.std.specs.Prelude.{◌≡◌, ◌<◌, ◌≤◌, ◌≤ℤ◌, length};
 ghost use Rattle.kpn_signals.specs.Words.{signed};
 ghost use Rattle.kpn_signals.specs.Shapes.{step_answer, join_answer};
-ghost use Rattle.kpn_signals.specs.Filters.{hold_join, delay_step, next_level, low_pass_step, nearest, clip_step};
+ghost use Rattle.kpn_signals.specs.Filters.{hold_join, delay_step, next_level, low_pass_step, nearest, clip_step, sum_step, difference_step, signed_sum, mean, average_step, counter_step};
 
-use crate::turns::{flag, joined, latest, reads, word, writes_word};
+use crate::turns::{flag, joined, latest, number, reads, word, writes_word};
+use crate::wide::{floor_div, signed, wrapped};
 use kpn_model::{Answer, Local, Token};
 
 /// Reads a word and a flag, and writes the word if the flag is true, else the last written one, forever.
@@ -75,4 +76,75 @@ fn nearest(least: u64, greatest: u64, word: u64) -> u64
     let word = word.cast_signed();
     word.clamp(least.cast_signed(), greatest.cast_signed())
         .cast_unsigned()
+}
+
+/// Reads a word, and writes the sum of all words so far, modulo 2^64, forever.
+pub(crate) fn sum(local: Local, last: Option<Token>) -> Answer
+    ensures { result ≡ step_answer sum_step local last }
+{
+    match last {
+        None => reads(local),
+        Some(token) => {
+            let total = local[0].wrapping_add(word(token));
+            writes_word([total, 0, 0, 0], total)
+        }
+    }
+}
+
+/// Reads a word, and writes it minus the word before, 0 at first, modulo 2^64, forever.
+pub(crate) fn difference(local: Local, last: Option<Token>) -> Answer
+    ensures { result ≡ step_answer difference_step local last }
+{
+    match last {
+        None => reads(local),
+        Some(token) => {
+            let [before, _, _, _] = local;
+            writes_word([word(token), 0, 0, 0], word(token).wrapping_sub(before))
+        }
+    }
+}
+
+/// Reads a word, and writes the mean of the last `n` words (1 to 5), rounded down, signed, forever. Before the
+/// first word there were zeros.
+pub(crate) fn average(n: u64, local: Local, last: Option<Token>) -> Answer
+    requires least { 0 < n }
+    requires greatest { n ≤ 5 }
+    ensures { result ≡ step_answer (average_step n) local last }
+{
+    match last {
+        None => reads(local),
+        Some(token) => {
+            let [first, second, third, fourth] = local;
+            let latest = [word(token), first, second, third, fourth];
+            writes_word(
+                [word(token), first, second, third],
+                mean(&latest[..n as usize]),
+            )
+        }
+    }
+}
+
+fn mean(words: &[u64]) -> u64
+    requires least { 0 < length words.now }
+    requires greatest { length words.now ≤ 5 }
+    ensures { result ≡ mean (length words.now) words.now }
+{
+    let mut total = 0;
+    for word in words {
+        total += signed(*word);
+    }
+    wrapped(floor_div(total, words.len() as i128))
+}
+
+/// Reads a flag, and writes how many were true so far, modulo 2^64, forever.
+pub(crate) fn counter(local: Local, last: Option<Token>) -> Answer
+    ensures { result ≡ step_answer counter_step local last }
+{
+    match last {
+        None => reads(local),
+        Some(token) => {
+            let count = local[0].wrapping_add(number(Token::Flag(flag(token))));
+            writes_word([count, 0, 0, 0], count)
+        }
+    }
 }

@@ -13,8 +13,8 @@ pub struct Help {
 pub const SIGNED: &str =
     "signed: a word is a number in two's complement, from 2^63 on itself less 2^64";
 
-/// The lines of help, in the order of the kinds' numbers.
-pub const HELP: [Help; 21] = [
+/// The lines of help, one for each name of a kind in descriptions, in the order of the kinds' numbers.
+pub const HELP: [Help; 36] = [
     Help {
         name: "input",
         arguments: "",
@@ -140,5 +140,95 @@ pub const HELP: [Help; 21] = [
         arguments: "LO HI",
         ports: "w -> w",
         does: "writes the nearest word from LO to HI, signed",
+    },
+    Help {
+        name: "copy_flags",
+        arguments: "",
+        ports: "f -> f f",
+        does: "writes each flag to both outputs",
+    },
+    Help {
+        name: "min",
+        arguments: "",
+        ports: "w w -> w",
+        does: "writes the lesser word, signed",
+    },
+    Help {
+        name: "max",
+        arguments: "",
+        ports: "w w -> w",
+        does: "writes the greater word, signed",
+    },
+    Help {
+        name: "abs",
+        arguments: "",
+        ports: "w -> w",
+        does: "writes the absolute value of each word, signed",
+    },
+    Help {
+        name: "offset",
+        arguments: "K",
+        ports: "w -> w",
+        does: "writes each word plus K, modulo 2^64",
+    },
+    Help {
+        name: "gain",
+        arguments: "A B",
+        ports: "w -> w",
+        does: "writes each word * A / B, rounded down, signed, then modulo 2^64; B at least 1",
+    },
+    Help {
+        name: "div",
+        arguments: "",
+        ports: "w w -> w",
+        does: "writes input 0's word / input 1's, rounded down, signed; 0 if that is 0",
+    },
+    Help {
+        name: "mod",
+        arguments: "",
+        ports: "w w -> w",
+        does: "writes what div leaves of input 0's word, with the sign of input 1's; all if that is 0",
+    },
+    Help {
+        name: "sum",
+        arguments: "",
+        ports: "w -> w",
+        does: "writes the sum of all words so far, modulo 2^64",
+    },
+    Help {
+        name: "difference",
+        arguments: "",
+        ports: "w -> w",
+        does: "writes each word minus the one before, 0 at first",
+    },
+    Help {
+        name: "average",
+        arguments: "N",
+        ports: "w -> w",
+        does: "writes the mean of the last N words, rounded down, signed, 0 before the first; N from 1 to 5",
+    },
+    Help {
+        name: "counter",
+        arguments: "",
+        ports: "f -> w",
+        does: "writes how many flags were true so far",
+    },
+    Help {
+        name: "edge",
+        arguments: "",
+        ports: "f -> f",
+        does: "writes whether the flag is true and the one before is not, false before the first",
+    },
+    Help {
+        name: "noise",
+        arguments: "SEED",
+        ports: "-> w",
+        does: "writes the words of the generator SplitMix64 for ever",
+    },
+    Help {
+        name: "gate",
+        arguments: "",
+        ports: "w f -> w",
+        does: "writes the words whose flag is true",
     },
 ];

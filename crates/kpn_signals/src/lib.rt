@@ -1,10 +1,10 @@
 //! The family of the kinds for signals: names, arguments, ports, answers, and lines of help.
 //!
-//! Sums, differences and products are modulo 2^64. Signed kinds (`shift`, `less`, `low_pass` and `clip`) read
-//! words as two's complement.
+//! Sums, differences and products are modulo 2^64. Signed kinds (`shift`, `less`, `low_pass`, `clip`, `min`,
+//! `max`, `abs`, `gain`, `div`, `mod` and `average`) read words as two's complement.
 //!
-//! A card has no negative arguments. So `constant`, `hold` and `clip`, and the standard `scale` and `prefix`,
-//! have a second kind each, `constant, signed` and so on. Its card has n for a negative argument -1 - n, and,
+//! A card has no negative arguments. So `constant`, `hold`, `clip`, `offset` and `gain`, and the standard `scale` and
+//! `prefix`, have a second kind each, `constant, signed` and so on. Its card has n for a negative argument -1 - n, and,
 //! after the arguments, how many of them are negative.
 #![tactic(auto)]
 
@@ -14,11 +14,13 @@ mod ends;
 mod filters;
 pub mod help;
 mod logic;
+mod noise;
 mod rates;
 pub mod signal;
 pub mod signals;
 mod signs;
 pub mod turns;
+mod wide;
 
 pub use answers::answer;
 pub use help::{HELP, Help, SIGNED};

@@ -1,13 +1,10 @@
 //! The kinds that write flags: each function returns its kind's answer.
 ghost use Rattle.std.specs.Prelude.{◌≡◌};
 ghost use Rattle.kpn_signals.specs.Shapes.{step_answer, join_answer};
-ghost use Rattle.kpn_signals.specs.Logic.{less_join, equal_join, not_step, and_join, or_join};
+ghost use Rattle.kpn_signals.specs.Logic.{less_join, equal_join, not_step, and_join, or_join, edge_step};
 
-use crate::turns::{flag, joined, latest, reads, word, writes};
+use crate::turns::{TRUE, flag, joined, latest, number, reads, word, writes};
 use kpn_model::{Answer, Local, Token};
-
-/// A true flag that was read first, as it is kept.
-const TRUE: u64 = 1;
 
 /// Reads two words, and writes whether the first is less than the second as signed numbers, forever.
 pub(crate) fn less(local: Local, last: Option<Token>) -> Answer
@@ -51,4 +48,19 @@ pub(crate) fn or(local: Local, last: Option<Token>) -> Answer
     let second = flag(latest(last));
     let is_one = first == TRUE || second;
     joined(local, last, kept, Token::Flag(is_one))
+}
+
+/// Reads a flag, and writes whether it is true and the flag before is not, forever. Before the first is false.
+pub(crate) fn edge(local: Local, last: Option<Token>) -> Answer
+    ensures { result ≡ step_answer edge_step local last }
+{
+    match last {
+        None => reads(local),
+        Some(token) => {
+            let [before, _, _, _] = local;
+            let now = flag(token);
+            let turns = now && before == 0;
+            writes([number(Token::Flag(now)), 0, 0, 0], Token::Flag(turns))
+        }
+    }
 }

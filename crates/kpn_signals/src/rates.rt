@@ -1,9 +1,9 @@
 //! The kinds that write fewer or more words than they read: each function returns its kind's answer.
 ghost use Rattle.std.specs.Prelude.{◌≡◌, ◌<◌};
-ghost use Rattle.kpn_signals.specs.Rates.{decimate_answer, repeat_answer};
+ghost use Rattle.kpn_signals.specs.Rates.{decimate_answer, repeat_answer, gate_answer};
 
-use crate::turns::{reads, word, writes_word};
-use kpn_model::{Answer, Local, Token};
+use crate::turns::{READS_FIRST, READS_SECOND, WRITES, flag, latest, reads, word, writes_word};
+use kpn_model::{Act, Answer, Local, Token};
 
 /// Writes the first of each `n` words, forever.
 pub(crate) fn decimate(n: u64, local: Local, last: Option<Token>) -> Answer
@@ -28,5 +28,21 @@ pub(crate) fn repeat(n: u64, local: Local, last: Option<Token>) -> Answer
         None if times == 0 => reads([0, value, 0, 0]),
         None => writes_word([times - 1, value, 0, 0], value),
         Some(token) => writes_word([n - 1, word(token), 0, 0], word(token)),
+    }
+}
+
+/// Reads a word and a flag, and writes the word if the flag is true, forever.
+pub(crate) fn gate(local: Local, last: Option<Token>) -> Answer
+    ensures { result ≡ gate_answer local last }
+{
+    let [turn, first, _, _] = local;
+    match turn {
+        READS_FIRST => reads([READS_SECOND, 0, 0, 0]),
+        READS_SECOND => Answer {
+            next: [WRITES, word(latest(last)), 0, 0],
+            act: Act::Read(1),
+        },
+        _ if flag(latest(last)) => writes_word([READS_FIRST, 0, 0, 0], first),
+        _ => reads([READS_SECOND, 0, 0, 0]),
     }
 }

@@ -66,10 +66,49 @@ pub enum Signal {
     SignedScale,
     /// n and 1: writes -1 - n, then each word.
     SignedPrefix,
+    /// Writes each flag to output 0, then to output 1.
+    CopyFlags,
+    /// Writes the lesser of two words, as signed numbers.
+    Min,
+    /// Writes the greater of two words, as signed numbers.
+    Max,
+    /// Writes the absolute value of each word, as a signed number; the word of -2^63 stays.
+    Abs,
+    /// A word: writes the sum of each word with it, modulo 2^64.
+    Offset,
+    /// A and B, at least 1: writes x * A / B for each word x, rounded down, as signed numbers. Only the result
+    /// is modulo 2^64.
+    Gain,
+    /// Writes the word of input 0 divided by that of input 1, rounded down, as signed numbers: 0 if that is 0.
+    Div,
+    /// Writes what `Div` leaves of the word of input 0, so x = d * (x div d) + (x mod d): x if d is 0.
+    Mod,
+    /// Writes the sum of all words so far, modulo 2^64.
+    Sum,
+    /// Writes each word minus the one before, 0 at first, modulo 2^64.
+    Difference,
+    /// n, 1 to 5: writes the mean of the last n words, rounded down, as signed numbers, with zeros before the
+    /// first.
+    Average,
+    /// Writes for each flag how many were true so far, modulo 2^64.
+    Counter,
+    /// Writes for each flag whether it is true and the one before is not; before the first is false.
+    Edge,
+    /// The first state: writes the words of the generator SplitMix64.
+    Noise,
+    /// Writes those words of input 0 whose flag of input 1 is true.
+    Gate,
+    /// n and 1: `Offset` by -1 - n.
+    SignedOffset,
+    /// n, B and 1: `Gain` of -1 - n and B.
+    SignedGain,
 }
 
 /// The longest delay: a process keeps four words.
 const MAX_DELAY: u64 = 4;
+
+/// The most words of a mean: those four, and the last one.
+const MAX_WINDOW: u64 = 5;
 
 const WORDS: Option<Sort> = Some(Sort::Words);
 
@@ -140,6 +179,23 @@ impl Signal {
             Signal::SignedClip => (23, "clip, signed", 3),
             Signal::SignedScale => (24, "scale, signed", 2),
             Signal::SignedPrefix => (25, "prefix, signed", 2),
+            Signal::CopyFlags => (26, "copy_flags", 0),
+            Signal::Min => (27, "min", 0),
+            Signal::Max => (28, "max", 0),
+            Signal::Abs => (29, "abs", 0),
+            Signal::Offset => (30, "offset", 1),
+            Signal::Gain => (31, "gain", 2),
+            Signal::Div => (32, "div", 0),
+            Signal::Mod => (33, "mod", 0),
+            Signal::Sum => (34, "sum", 0),
+            Signal::Difference => (35, "difference", 0),
+            Signal::Average => (36, "average", 1),
+            Signal::Counter => (37, "counter", 0),
+            Signal::Edge => (38, "edge", 0),
+            Signal::Noise => (39, "noise", 1),
+            Signal::Gate => (40, "gate", 0),
+            Signal::SignedOffset => (41, "offset, signed", 2),
+            Signal::SignedGain => (42, "gain, signed", 3),
         }
     }
 
@@ -148,13 +204,17 @@ impl Signal {
         ensures outs { result.1 ≡ (row_of self).outs }
     {
         match self {
-            Signal::Input | Signal::Constant | Signal::CountUp | Signal::SignedConstant => (
-                NO_PORT, ONE_WORD,
-            ),
+            Signal::Input
+            | Signal::Constant
+            | Signal::CountUp
+            | Signal::Noise
+            | Signal::SignedConstant => (NO_PORT, ONE_WORD),
             Signal::InputFlags => (NO_PORT, ONE_FLAG),
             Signal::Drain => (ONE_WORD, NO_PORT),
             Signal::DrainFlags => (ONE_FLAG, NO_PORT),
-            Signal::Sub | Signal::Mul => (TWO_WORDS, ONE_WORD),
+            Signal::Sub | Signal::Mul | Signal::Min | Signal::Max | Signal::Div | Signal::Mod => (
+                TWO_WORDS, ONE_WORD,
+            ),
             Signal::Shift
             | Signal::Left
             | Signal::Decimate
@@ -164,11 +224,21 @@ impl Signal {
             | Signal::Clip
             | Signal::SignedClip
             | Signal::SignedScale
-            | Signal::SignedPrefix => (ONE_WORD, ONE_WORD),
+            | Signal::SignedPrefix
+            | Signal::Abs
+            | Signal::Offset
+            | Signal::Gain
+            | Signal::Sum
+            | Signal::Difference
+            | Signal::Average
+            | Signal::SignedOffset
+            | Signal::SignedGain => (ONE_WORD, ONE_WORD),
             Signal::Less | Signal::Equal => (TWO_WORDS, ONE_FLAG),
-            Signal::Not => (ONE_FLAG, ONE_FLAG),
+            Signal::Not | Signal::Edge => (ONE_FLAG, ONE_FLAG),
+            Signal::Counter => (ONE_FLAG, ONE_WORD),
             Signal::And | Signal::Or => (TWO_FLAGS, ONE_FLAG),
-            Signal::Hold | Signal::SignedHold => (WORD_AND_FLAG, ONE_WORD),
+            Signal::CopyFlags => (ONE_FLAG, TWO_FLAGS),
+            Signal::Hold | Signal::SignedHold | Signal::Gate => (WORD_AND_FLAG, ONE_WORD),
         }
     }
 
@@ -204,6 +274,23 @@ impl Signal {
             23 => Some(Signal::SignedClip),
             24 => Some(Signal::SignedScale),
             25 => Some(Signal::SignedPrefix),
+            26 => Some(Signal::CopyFlags),
+            27 => Some(Signal::Min),
+            28 => Some(Signal::Max),
+            29 => Some(Signal::Abs),
+            30 => Some(Signal::Offset),
+            31 => Some(Signal::Gain),
+            32 => Some(Signal::Div),
+            33 => Some(Signal::Mod),
+            34 => Some(Signal::Sum),
+            35 => Some(Signal::Difference),
+            36 => Some(Signal::Average),
+            37 => Some(Signal::Counter),
+            38 => Some(Signal::Edge),
+            39 => Some(Signal::Noise),
+            40 => Some(Signal::Gate),
+            41 => Some(Signal::SignedOffset),
+            42 => Some(Signal::SignedGain),
             _ => None,
         }
     }
@@ -239,6 +326,23 @@ impl Signal {
             "clip, signed" => Some(Signal::SignedClip),
             "scale, signed" => Some(Signal::SignedScale),
             "prefix, signed" => Some(Signal::SignedPrefix),
+            "copy_flags" => Some(Signal::CopyFlags),
+            "min" => Some(Signal::Min),
+            "max" => Some(Signal::Max),
+            "abs" => Some(Signal::Abs),
+            "offset" => Some(Signal::Offset),
+            "gain" => Some(Signal::Gain),
+            "div" => Some(Signal::Div),
+            "mod" => Some(Signal::Mod),
+            "sum" => Some(Signal::Sum),
+            "difference" => Some(Signal::Difference),
+            "average" => Some(Signal::Average),
+            "counter" => Some(Signal::Counter),
+            "edge" => Some(Signal::Edge),
+            "noise" => Some(Signal::Noise),
+            "gate" => Some(Signal::Gate),
+            "offset, signed" => Some(Signal::SignedOffset),
+            "gain, signed" => Some(Signal::SignedGain),
             _ => None,
         }
     }
@@ -254,6 +358,8 @@ impl Signal {
             Signal::SignedClip => ("clip", 2),
             Signal::SignedScale => ("scale", 1),
             Signal::SignedPrefix => ("prefix", 1),
+            Signal::SignedOffset => ("offset", 1),
+            Signal::SignedGain => ("gain", 2),
             kind => {
                 let row = kind.row();
                 (row.name, row.arguments)
@@ -274,23 +380,32 @@ impl Signal {
             Signal::Shift | Signal::Left | Signal::LowPass => one_used && a < 64,
             Signal::Decimate | Signal::Repeat => one_used && a > 0,
             Signal::Delay => one_used && a > 0 && a <= MAX_DELAY,
-            Signal::Constant | Signal::Hold => one_used,
+            Signal::Average => one_used && a > 0 && a <= MAX_WINDOW,
+            Signal::Gain => two_used && b > 0,
+            Signal::Constant | Signal::Hold | Signal::Offset | Signal::Noise => one_used,
             Signal::SignedConstant | Signal::SignedHold => is_one_below(args),
             Signal::SignedScale | Signal::SignedPrefix => is_one_below(args),
+            Signal::SignedOffset => is_one_below(args),
             Signal::SignedClip => are_bounds(a, b, c),
+            Signal::SignedGain => a < FIRST_BELOW && b > 0 && c == 1,
             Signal::Input | Signal::InputFlags | Signal::Drain | Signal::DrainFlags => none_used,
             Signal::CountUp | Signal::Sub | Signal::Mul | Signal::Less => none_used,
             Signal::Equal | Signal::Not | Signal::And | Signal::Or => none_used,
+            Signal::CopyFlags | Signal::Min | Signal::Max | Signal::Abs => none_used,
+            Signal::Div | Signal::Mod | Signal::Sum | Signal::Difference => none_used,
+            Signal::Counter | Signal::Edge | Signal::Gate => none_used,
         }
     }
 
-    /// Returns the local state in which a process of the kind begins: `hold` keeps its argument.
+    /// Returns the local state in which a process of the kind begins: `hold` and `noise` keep their
+    /// argument.
     pub fn start(self, args: [u64; 3]) -> Local
         ensures { result ≡ start_of self args }
     {
         match self {
             Signal::Hold => [READS_FIRST, 0, args[0], 0],
             Signal::SignedHold => [READS_FIRST, 0, word_below(args[0]), 0],
+            Signal::Noise => [args[0], 0, 0, 0],
             _ => [0; 4],
         }
     }

@@ -14,6 +14,9 @@ pub const READS_SECOND: u64 = 1;
 /// The first number before it writes.
 pub const WRITES: u64 = 2;
 
+/// A true flag, as it is kept.
+pub(crate) const TRUE: u64 = 1;
+
 pub(crate) fn reads(next: Local) -> Answer
     ensures { result ≡ record { next = next; act = Act.Read 0 } }
 {
@@ -75,7 +78,7 @@ pub(crate) fn latest(last: Option<Token>) -> Token
 }
 
 /// Returns a token as a number: a true flag is 1, a false one 0.
-fn number(token: Token) -> u64
+pub(crate) fn number(token: Token) -> u64
     ensures { result ≡ number_of token }
 {
     match token {

@@ -1,5 +1,5 @@
 -- The sketch that a TOML document describes.
-use Rattle.std.specs.Prelude.{◌≡◌, ℕ, ℤ, pos, IsUtf8, IsSome, codes, List, [], ◌∷◌, Option, Some, None, option_and_then, if◌then◌else◌}
+use Rattle.std.specs.Prelude.{◌≡◌, ℕ, ℤ, pos, Bool, true, false, IsUtf8, IsSome, codes, List, [], ◌∷◌, Option, Some, None, option_and_then, if◌then◌else◌}
 use Rattle.toml.specs.Data.{Data, integer, boolean, Members, as_str, as_integer, as_table}
 use Rattle.std.specs.Str.{bytes_eq}
 use Rattle.kpn_model.specs.declared.token.Sort.{Sort}
@@ -9,6 +9,9 @@ use Rattle.kpn_sketch.specs.declared.sketch.TokenSketch.TheVariants.{Integer, Bo
 use Rattle.kpn_sketch.specs.declared.sketch.ProcessSketch.{ProcessSketch}
 use Rattle.kpn_sketch.specs.declared.sketch.ChannelSketch.{ChannelSketch}
 use Rattle.kpn_sketch.specs.declared.sketch.Sketch.{Sketch}
+use Rattle.kpn_sketch.specs.declared.sketch.Delay.{Delay}
+use Rattle.kpn_sketch.specs.declared.sketch.Delayed.{Delayed}
+use Rattle.kpn_sketch.specs.declared.form.Reading.{Reading}
 use Rattle.toml.specs.Parse.{parse_document}
 use Rattle.kpn_model.specs.declared.limits.TheConstants.{DEFAULT_BUDGET}
 use Rattle.kpn_sketch.specs.declared.fault.NetFault.{NetFault}
@@ -46,10 +49,13 @@ token_of (integer z) = Some (Integer z)
 token_of (boolean b) = Some (Boolean b)
 token_of _ = None
 
--- channels have start tokens from version 2 on
-abbrev pub channel_keys : ℤ → List (List ℕ)
-channel_keys version =
-    codes "name" ∷ codes "from" ∷ codes "to" ∷ codes "out" ∷ codes "in" ∷ codes "sort" ∷ codes "capacity" ∷ (if is_two version then codes "tokens" ∷ [] else [])
+-- channels have start tokens from version 2 on, and delays if these are read
+abbrev pub held_keys : Bool → List (List ℕ)
+held_keys has_delays = codes "tokens" ∷ (if has_delays then codes "delay" ∷ [] else [])
+
+abbrev pub channel_keys : Reading → List (List ℕ)
+channel_keys reading =
+    codes "name" ∷ codes "from" ∷ codes "to" ∷ codes "out" ∷ codes "in" ∷ codes "sort" ∷ codes "capacity" ∷ (if is_two reading.version then held_keys reading.has_delays else [])
 
 abbrev pub channel_from : Members → Option ChannelSketch
 channel_from table =
@@ -63,30 +69,61 @@ channel_from table =
     optional (array_of token_of) [] (codes "tokens") table >>= (λ tokens.
     Some (record { name = name; from = from; to = to; out = out; input = input; sort = sort; capacity = capacity; tokens = tokens })))))))))
 
-abbrev pub described_channel : ℤ → Data → Option ChannelSketch
-described_channel version d = known_table (channel_keys version) d >>= channel_from
+abbrev pub described_channel : Reading → Data → Option ChannelSketch
+described_channel reading d = known_table (channel_keys reading) d >>= channel_from
+
+abbrev pub described_delay : Data → Option Delay
+described_delay d = as_table d >>= (λ table. optional as_integer (pos 0) (codes "delay") table >>= (λ tokens. Some (record { tokens = tokens })))
 
 -- growths have a step from version 2 on
 abbrev pub top_keys : ℤ → List (List ℕ)
 top_keys version = codes "version" ∷ codes "budget" ∷ codes "process" ∷ codes "channel" ∷ (if is_two version then codes "step" ∷ [] else [])
 
-abbrev pub sketch_of : Members → Option Sketch
-sketch_of table =
+abbrev pub sketch_by : Bool → Members → Option Sketch
+sketch_by has_delays table =
     required as_integer (codes "version") table >>= (λ version.
     if has_only (top_keys version) table then
     optional as_integer (pos DEFAULT_BUDGET) (codes "budget") table >>= (λ budget.
     optional as_integer (pos 1) (codes "step") table >>= (λ step.
     required (array_of described_process) (codes "process") table >>= (λ processes.
-    optional (array_of (described_channel version)) [] (codes "channel") table >>= (λ channels.
+    optional (array_of (described_channel (record { version = version; has_delays = has_delays }))) [] (codes "channel") table >>= (λ channels.
     Some (record { version = version; budget = budget; step = step; processes = processes; channels = channels })))))
     else None)
 
-abbrev pub Describes : List ℕ → Sketch → Type 0
-Describes text sketch = IsUtf8 text × (option_and_then sketch_of (parse_document text) ≡ Some sketch)
+abbrev pub sketch_of : Members → Option Sketch
+sketch_of = sketch_by false
 
--- `Memory` at any time; else one of the others, if the text describes no sketch
+-- the sketch without the delays, and these
+abbrev pub delayed_of : Members → Option Delayed
+delayed_of table =
+    sketch_by true table >>= (λ sketch.
+    optional (array_of described_delay) [] (codes "channel") table >>= (λ delays.
+    Some (record { sketch = sketch; delays = delays })))
+
+-- how the table of a document is read
+abbrev pub Reader : Type 0 → Type 0
+Reader A = Members → Option A
+
+module _ {A : Type 0} (read : Reader A) where
+  -- this is read of the text
+  abbrev pub DescribesBy : List ℕ → A → Type 0
+  DescribesBy text described = IsUtf8 text × (option_and_then read (parse_document text) ≡ Some described)
+
+  -- `Memory` at any time; else one of the others, if nothing is read of the text
+  abbrev pub IsFaultBy : List ℕ → NetFault → Type 0
+  IsFaultBy text NotToml = IsUtf8 text → parse_document text ≡ None
+  IsFaultBy text Keys = IsUtf8 text × IsSome (parse_document text) × (option_and_then read (parse_document text) ≡ None)
+  IsFaultBy text Memory = Unit {0}
+  IsFaultBy text _ = ⊥
+
+abbrev pub Describes : List ℕ → Sketch → Type 0
+Describes = DescribesBy sketch_of
+
 abbrev pub IsReadFault : List ℕ → NetFault → Type 0
-IsReadFault text NotToml = IsUtf8 text → parse_document text ≡ None
-IsReadFault text Keys = IsUtf8 text × IsSome (parse_document text) × (option_and_then sketch_of (parse_document text) ≡ None)
-IsReadFault text Memory = Unit {0}
-IsReadFault text _ = ⊥
+IsReadFault = IsFaultBy sketch_of
+
+abbrev pub DescribesDelayed : List ℕ → Delayed → Type 0
+DescribesDelayed = DescribesBy delayed_of
+
+abbrev pub IsDelayedFault : List ℕ → NetFault → Type 0
+IsDelayedFault = IsFaultBy delayed_of

@@ -12,5 +12,5 @@ pub mod read;
 pub mod sketch;
 
 pub use fault::NetFault;
-pub use read::read_sketch;
-pub use sketch::{ChannelSketch, ProcessSketch, Sketch, TokenSketch};
+pub use read::{read_delayed, read_sketch};
+pub use sketch::{ChannelSketch, Delay, Delayed, ProcessSketch, Sketch, TokenSketch};

@@ -6,11 +6,11 @@ ghost use Rattle.toml.specs.Parse.{parse_document};
 ghost use Rattle.toml.specs.View.{table_view};
 ghost use Rattle.kpn_model.specs.declared.limits.TheConstants.{DEFAULT_BUDGET};
 ghost use Rattle.kpn_sketch.specs.Form.{Reads, required, optional, has_only};
-ghost use Rattle.kpn_sketch.specs.Description.{Describes, IsReadFault, sketch_of, top_keys, channel_keys, channel_from};
+ghost use Rattle.kpn_sketch.specs.Description.{Describes, DescribesDelayed, IsDelayedFault, IsReadFault, delayed_of, sketch_by, top_keys, channel_keys, channel_from};
 
 use crate::fault::NetFault;
-use crate::form::{Form, find, has_only, optional, required};
-use crate::sketch::{ChannelSketch, ProcessSketch, Sketch, TokenSketch};
+use crate::form::{Form, Reading, find, has_only, optional, required};
+use crate::sketch::{ChannelSketch, Delay, Delayed, ProcessSketch, Sketch, TokenSketch};
 use kpn_model::limits::DEFAULT_BUDGET;
 use kpn_model::version::is_two;
 use kpn_model::{Listed, Sort};
@@ -39,13 +39,39 @@ pub fn read_sketch(alloc: Global, text: &[u8]) -> Result<Sketch, NetFault>
     ensures fault { IfErr result (IsReadFault text.now) }
 {
     match toml::table_from_slice(alloc, text) {
-        Ok(table) => sketch_of(alloc, &table),
+        Ok(table) => sketch_by(alloc, false, &table),
         Err(error) => Err(fault_of(&error)),
     }
 }
 
+/// Reads a description like [`read_sketch`], whose channels in version 2 may also have `delay` (an integer, by
+/// default 0).
+pub fn read_delayed(alloc: Global, text: &[u8]) -> Result<Delayed, NetFault>
+    ensures ok { IfOk result (DescribesDelayed text.now) }
+    ensures fault { IfErr result (IsDelayedFault text.now) }
+{
+    match toml::table_from_slice(alloc, text) {
+        Ok(table) => delayed_of(alloc, &table),
+        Err(error) => Err(fault_of(&error)),
+    }
+}
+
+fn delayed_of(alloc: Global, table: &Table) -> Result<Delayed, NetFault>
+    ensures { Reads result (delayed_of (table_view table.now)) }
+{
+    let sketch = sketch_by(alloc, true, table)?;
+    let reading = Reading {
+        version: sketch.version,
+        has_delays: true,
+    };
+    let none = Listed::new(Vec::new(alloc));
+    let delays = optional(alloc, reading, table, "channel", none)?;
+    Ok(Delayed { sketch, delays })
+}
+
 fn fault_of(error: &Error) -> NetFault
-    ensures { (text : List ℕ) → ((IsMemory error.now → ⊥) → IsUtf8 text → parse_document text ≡ None) → IsReadFault text result }
+    ensures plain { (text : List ℕ) → ((IsMemory error.now → ⊥) → IsUtf8 text → parse_document text ≡ None) → IsReadFault text result }
+    ensures delayed { (text : List ℕ) → ((IsMemory error.now → ⊥) → IsUtf8 text → parse_document text ≡ None) → IsDelayedFault text result }
 {
     if error.is_memory() {
         NetFault::Memory
@@ -73,28 +99,32 @@ fn has_only_top_keys(version: i64, table: &Table) -> bool
     }
 }
 
-fn budget_of(alloc: Global, version: i64, table: &Table) -> Result<i64, NetFault>
+fn budget_of(alloc: Global, reading: Reading, table: &Table) -> Result<i64, NetFault>
     ensures { Reads result (optional as_integer (pos DEFAULT_BUDGET) (codes "budget") (table_view table.now)) }
 {
     let default = i64::from(DEFAULT_BUDGET);
-    optional(alloc, version, table, "budget", default)
+    optional(alloc, reading, table, "budget", default)
 }
 
-fn sketch_of(alloc: Global, table: &Table) -> Result<Sketch, NetFault>
-    ensures { Reads result (sketch_of (table_view table.now)) }
+fn sketch_by(alloc: Global, has_delays: bool, table: &Table) -> Result<Sketch, NetFault>
+    ensures { Reads result (sketch_by has_delays (table_view table.now)) }
 {
     let version = version_of(table)?;
     if !has_only_top_keys(version, table) {
         return Err(NetFault::Keys);
     }
+    let reading = Reading {
+        version,
+        has_delays,
+    };
     Ok(Sketch {
         version,
-        budget: budget_of(alloc, version, table)?,
-        step: optional(alloc, version, table, "step", 1)?,
-        processes: required(alloc, version, table, "process")?,
+        budget: budget_of(alloc, reading, table)?,
+        step: optional(alloc, reading, table, "step", 1)?,
+        processes: required(alloc, reading, table, "process")?,
         channels: optional(
             alloc,
-            version,
+            reading,
             table,
             "channel",
             Listed::new(Vec::new(alloc)),
@@ -105,60 +135,65 @@ fn sketch_of(alloc: Global, table: &Table) -> Result<Sketch, NetFault>
 impl Form for ProcessSketch {
     ghost use Rattle.kpn_sketch.specs.Description.{described_process};
 
-    ghost form = { λ version. described_process };
+    ghost form = { λ reading. described_process };
 
-    fn read(alloc: Global, version: i64, value: &Value) -> Result<ProcessSketch, NetFault> {
+    fn read(alloc: Global, reading: Reading, value: &Value) -> Result<ProcessSketch, NetFault> {
         let table = match value.as_table() {
             Some(table) if has_only(table, &["name", "kind", "args"]) => table,
             _ => return Err(NetFault::Keys),
         };
         Ok(ProcessSketch {
-            name: required(alloc, version, table, "name")?,
-            kind: required(alloc, version, table, "kind")?,
-            args: optional(alloc, version, table, "args", Listed::new(Vec::new(alloc)))?,
+            name: required(alloc, reading, table, "name")?,
+            kind: required(alloc, reading, table, "kind")?,
+            args: optional(alloc, reading, table, "args", Listed::new(Vec::new(alloc)))?,
         })
     }
 }
 
-fn has_only_channel_keys(version: i64, table: &Table) -> bool
-    ensures { result ≡ has_only (channel_keys version) (table_view table.now) }
+fn has_only_channel_keys(reading: Reading, table: &Table) -> bool
+    ensures { result ≡ has_only (channel_keys reading) (table_view table.now) }
 {
-    if is_two(version) {
-        has_only(
+    match (is_two(reading.version), reading.has_delays) {
+        (true, true) => has_only(
+            table,
+            &[
+                "name", "from", "to", "out", "in", "sort", "capacity", "tokens", "delay",
+            ],
+        ),
+        (true, false) => has_only(
             table,
             &[
                 "name", "from", "to", "out", "in", "sort", "capacity", "tokens",
             ],
-        )
-    } else {
-        has_only(
+        ),
+        (false, _) => has_only(
             table,
             &["name", "from", "to", "out", "in", "sort", "capacity"],
-        )
+        ),
     }
 }
 
-fn input_of(alloc: Global, version: i64, table: &Table) -> Result<i64, NetFault>
+fn input_of(alloc: Global, reading: Reading, table: &Table) -> Result<i64, NetFault>
     ensures { Reads result (optional as_integer (pos 0) (codes "in") (table_view table.now)) }
 {
-    optional(alloc, version, table, "in", 0)
+    optional(alloc, reading, table, "in", 0)
 }
 
 /// Reads a channel; other keys are ignored.
-fn channel_from(alloc: Global, version: i64, table: &Table) -> Result<ChannelSketch, NetFault>
+fn channel_from(alloc: Global, reading: Reading, table: &Table) -> Result<ChannelSketch, NetFault>
     ensures { Reads result (channel_from (table_view table.now)) }
 {
     Ok(ChannelSketch {
-        name: required(alloc, version, table, "name")?,
-        from: required(alloc, version, table, "from")?,
-        to: required(alloc, version, table, "to")?,
-        out: optional(alloc, version, table, "out", 0)?,
-        input: input_of(alloc, version, table)?,
-        sort: optional(alloc, version, table, "sort", Sort::Words)?,
-        capacity: optional(alloc, version, table, "capacity", 1)?,
+        name: required(alloc, reading, table, "name")?,
+        from: required(alloc, reading, table, "from")?,
+        to: required(alloc, reading, table, "to")?,
+        out: optional(alloc, reading, table, "out", 0)?,
+        input: input_of(alloc, reading, table)?,
+        sort: optional(alloc, reading, table, "sort", Sort::Words)?,
+        capacity: optional(alloc, reading, table, "capacity", 1)?,
         tokens: optional(
             alloc,
-            version,
+            reading,
             table,
             "tokens",
             Listed::new(Vec::new(alloc)),
@@ -171,22 +206,37 @@ impl Form for ChannelSketch {
 
     ghost form = { described_channel };
 
-    fn read(alloc: Global, version: i64, value: &Value) -> Result<ChannelSketch, NetFault> {
+    fn read(alloc: Global, reading: Reading, value: &Value) -> Result<ChannelSketch, NetFault> {
         match value.as_table() {
-            Some(table) if has_only_channel_keys(version, table) => {
-                channel_from(alloc, version, table)
+            Some(table) if has_only_channel_keys(reading, table) => {
+                channel_from(alloc, reading, table)
             }
             _ => Err(NetFault::Keys),
         }
     }
 }
 
+impl Form for Delay {
+    ghost use Rattle.kpn_sketch.specs.Description.{described_delay};
+
+    ghost form = { λ reading. described_delay };
+
+    fn read(alloc: Global, reading: Reading, value: &Value) -> Result<Delay, NetFault> {
+        let Some(table) = value.as_table() else {
+            return Err(NetFault::Keys);
+        };
+        Ok(Delay {
+            tokens: optional(alloc, reading, table, "delay", 0)?,
+        })
+    }
+}
+
 impl Form for TokenSketch {
     ghost use Rattle.kpn_sketch.specs.Description.{token_of};
 
-    ghost form = { λ version. token_of };
+    ghost form = { λ reading. token_of };
 
-    fn read(_alloc: Global, _version: i64, value: &Value) -> Result<TokenSketch, NetFault> {
+    fn read(_alloc: Global, _reading: Reading, value: &Value) -> Result<TokenSketch, NetFault> {
         match value {
             Value::Integer(integer) => Ok(TokenSketch::Integer(*integer)),
             Value::Boolean(boolean) => Ok(TokenSketch::Boolean(*boolean)),
@@ -198,9 +248,9 @@ impl Form for TokenSketch {
 impl Form for Sort {
     ghost use Rattle.kpn_sketch.specs.Description.{described_sort};
 
-    ghost form = { λ version. described_sort };
+    ghost form = { λ reading. described_sort };
 
-    fn read(_alloc: Global, _version: i64, value: &Value) -> Result<Sort, NetFault> {
+    fn read(_alloc: Global, _reading: Reading, value: &Value) -> Result<Sort, NetFault> {
         let Some(text) = value.as_str() else {
             return Err(NetFault::Keys);
         };

@@ -12,6 +12,19 @@ pub struct Sketch {
     pub channels: Listed<ChannelSketch>,
 }
 
+/// A description whose channels may have delays: its sketch without them, and the delay of each channel.
+#[derive(Drop)]
+pub struct Delayed {
+    pub sketch: Sketch,
+    pub delays: Listed<Delay>,
+}
+
+/// How many tokens a channel holds before its start tokens; by default none.
+#[derive(Clone, Copy, Debug, PartialEq, Eq)]
+pub struct Delay {
+    pub tokens: i64,
+}
+
 /// A process of a description: its name, the name of its kind, and its arguments in order.
 #[derive(Drop)]
 pub struct ProcessSketch {

@@ -7,6 +7,8 @@ pub mod Merging
 pub mod Union
 pub mod Flags
 pub mod Filters
+pub mod Shapes
+pub mod SignalKinds
 pub mod Families
 pub mod SolvingFed
 pub mod SolvingPorts

@@ -7,6 +7,8 @@
 
 mod equations;
 mod functions;
+mod signals;
 
 pub use equations::{solving, solving_of};
 pub use functions::{family_functions, filter_function_of, filter_functions, standard_functions};
+pub use signals::signal_functions;

@@ -6,3 +6,4 @@ mod pauses;
 mod refusals;
 mod streams;
 mod tables;
+mod verdicts;

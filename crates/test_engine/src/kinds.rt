@@ -1,5 +1,6 @@
 //! Tests of kpn_standard, kpn_body, kpn_compute and kpn_signals.
 mod computed;
+mod signal_tables;
 mod signals;
 mod standard;
 mod tasks;

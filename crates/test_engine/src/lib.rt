@@ -7,6 +7,8 @@ mod candidates;
 #[cfg(test)]
 mod checks;
 #[cfg(test)]
+mod dry;
+#[cfg(test)]
 mod ends;
 #[cfg(test)]
 mod entries;

@@ -262,9 +262,10 @@ static STANDARD_TITLES: [TitleRow; 4] = [
     (11, 22, [0, 0, 0], ("select", 0)),
 ];
 
-static SIGNALS_TITLES: [TitleRow; 2] = [
+static SIGNALS_TITLES: [TitleRow; 3] = [
     (19, 39, [3, 0, 0], ("low_pass", 1)),
     (20, 41, [1, 9, 0], ("clip", 2)),
+    (31, 63, [3, 2, 0], ("gain", 2)),
 ];
 
 fn compare_titles<K: Titled, R: Abort>(rt: &R, row: &TitleRow, is_standard: bool) {

@@ -11,6 +11,7 @@ use hox_execute::{
 };
 use hox_network::AllKinds;
 use hox_run::Silent;
+use hox_stream::NoOnlooker;
 use kpn_net::{Listed, Text};
 use std::alloc::{AllocError, Global};
 use std::io;
@@ -137,12 +138,13 @@ fn push_bytes(trace: &mut String, bytes: &[u8]) -> Result<(), AllocError> {
     }
 }
 
-/// Returns the exit status, or 9 if a stream is to run.
+/// Returns the exit status, or 9 if a stream is to run, and 10 if kinds are to be listed.
 fn status_of(outcome: &Result<Outcome<'_>, Stop<'_>>) -> u8 {
     match outcome {
         Ok(Outcome::Exits(status)) => status.code(),
         Ok(Outcome::Ran(ran)) => ran.status.code(),
         Ok(Outcome::Streams(_)) => 9,
+        Ok(Outcome::Lists(_)) => 10,
         Err(stop) => stop.status().code(),
     }
 }
@@ -183,7 +185,7 @@ fn does_among<R: AllocGlobal + Wait + Clock + Threads + Abort + Sync>(
 }
 
 /// Command lines on `COPY`, with the exit status and what is done.
-static ROWS: [(&str, u8, &str); 23] = [
+static ROWS: [(&str, u8, &str); 27] = [
     (
         "hox check d --tokens x=t",
         0,
@@ -203,6 +205,21 @@ static ROWS: [(&str, u8, &str); 23] = [
         "hox run d --tokens x=t --show y --show x",
         0,
         "> -\nend deadlock\nprocess src stopped steps 1\nprocess p stopped steps 5\nprocess snk reads y steps 2\nchannel x put 0 left 0 capacity 2\nchannel y put 2 left 0 capacity 1\nentries 8\nstream y 1 16\nstream x 1 16\nverdict ran dry\n",
+    ),
+    (
+        "hox run d --tokens x=t --show y --show x --json",
+        0,
+        "> -\n{\"channels\":{\"x\":{\"capacity\":2,\"left\":0,\"put\":0},\"y\":{\"capacity\":1,\"left\":0,\"put\":2}},\"end\":\"deadlock\",\"entries\":8,\"growths\":[],\"processes\":{\"p\":{\"state\":\"stopped\",\"steps\":5},\"snk\":{\"channel\":\"y\",\"state\":\"reads\",\"steps\":2},\"src\":{\"state\":\"stopped\",\"steps\":1}},\"streams\":{\"x\":[1,16],\"y\":[1,16]},\"verdict\":\"ran dry\"}\n",
+    ),
+    (
+        "hox run d --tokens x=t --out y=- --json",
+        0,
+        "!\n{\"channels\":{\"x\":{\"capacity\":2,\"left\":0,\"put\":0},\"y\":{\"capacity\":1,\"left\":0,\"put\":2}},\"end\":\"deadlock\",\"entries\":8,\"growths\":[],\"processes\":{\"p\":{\"state\":\"stopped\",\"steps\":5},\"snk\":{\"channel\":\"y\",\"state\":\"reads\",\"steps\":2},\"src\":{\"state\":\"stopped\",\"steps\":1}},\"streams\":{},\"verdict\":\"ran dry\"}\n> -\n1\n16\n",
+    ),
+    (
+        "hox run d --tokens x=t --out y=o --json --quiet",
+        0,
+        "> o\n1\n16\n",
     ),
     (
         "hox run d --tokens x=t --out y=o --out x=p --quiet",
@@ -239,6 +256,7 @@ static ROWS: [(&str, u8, &str); 23] = [
     ("hox draw none", 2, ""),
     ("hox check --workers 2 d", 1, ""),
     ("hox stream d --in x=t", 9, ""),
+    ("hox kinds add", 10, ""),
 ];
 
 #[test]
@@ -349,9 +367,16 @@ fn streamed<R: AllocGlobal + Abort>(
         outputs: vec![in alloc; output].expect(rt, "no memory"),
         formats: vec![in alloc; format].expect(rt, "no memory"),
         unsigned: Vec::new(alloc),
+        progress: false,
+        watch: false,
         quiet: true,
     };
-    let written = match stream::<AllKinds, _>(alloc, &memory_of(rt, COPY), &choice) {
+    let written = match stream::<AllKinds, _, _>(
+        alloc,
+        &memory_of(rt, COPY),
+        &choice,
+        &NoOnlooker,
+    ) {
         Ok(mut streamed) => match streamed.served.outlets.pop() {
             Some(outlet) => String::from_utf8(outlet.into_sink()).ok(),
             None => None,

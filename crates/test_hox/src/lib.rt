@@ -1,5 +1,5 @@
-//! Tests of the program `hox`: `formats` of hox_format, `samples` of hox_network, hox_run and hox_args,
-//! `drawing` of hox_draw and hox_args, and `executing` of hox_files and hox_execute. They are one crate so
+//! Tests of the program `hox`: `formats` of hox_format, `samples` and `fan_out` of hox_network, hox_run, hox_args and hox_expanded,
+//! `drawing` of hox_draw and hox_args, `json` of hox_json, and `executing` of hox_files and hox_execute. They are one crate so
 //! that its dependencies are loaded once, and not in test_programs, whose dependencies are proved long
 //! before.
 #![tactic(auto)]
@@ -11,6 +11,10 @@ mod drawing;
 #[cfg(test)]
 mod executing;
 #[cfg(test)]
+mod fan_out;
+#[cfg(test)]
 mod formats;
+#[cfg(test)]
+mod json;
 #[cfg(test)]
 mod samples;

@@ -278,6 +278,38 @@ fn a_run_that_is_cut_tells_what_it_has(rt: HostRuntime) {
     let _ = is_cut(&rt, 2);
 }
 
+/// Words of a file are added to an endless source's.
+const SUM: &str = r#"version = 1
+process = [{ name = "src", kind = "input" }, { name = "more", kind = "constant", args = [7] }, { name = "sum", kind = "add" }, { name = "snk", kind = "drain" }]
+channel = [{ name = "x", from = "src", to = "sum" }, { name = "k", from = "more", to = "sum", in = 1 }, { name = "y", from = "sum", to = "snk" }]
+"#;
+
+fn ends<R: Abort>(rt: &R, told: &Told, status: u8, lines: &str) {
+    same(rt, "status", told.status.code(), status);
+    same(rt, lines, told.report.contains(lines), true);
+}
+
+/// All that comes of two words is 8 and 9; the endless source could go on. So could its channel, if that is
+/// wanted too; and nothing is known of what nobody wants.
+#[test]
+fn a_run_runs_dry_beside_an_endless_source(rt: HostRuntime) {
+    let mut request = asked(&rt, rt.alloc(), "1\n2\n", 1);
+    let told = told_of(&rt, SUM, &request, &Silent);
+    ends(&rt, &told, 0, "\nverdict ran dry\nactive more\n");
+    compare_output(&rt, &told, &[Token::Word(8), Token::Word(9)]);
+    request.budget = Some(99);
+    let told = told_of(&rt, SUM, &request, &Silent);
+    ends(&rt, &told, 0, "end budget\nverdict ran dry\nactive more\n");
+    same(&rt, "budget", told.notes.budget, None);
+    request.budget = None;
+    request.show = streams_as(&rt, rt.alloc(), &["k"]);
+    let told = told_of(&rt, SUM, &request, &Silent);
+    ends(&rt, &told, 6, "\nverdict full\n");
+    let request = with_tokens(&rt, rt.alloc(), "1\n2\n", 2);
+    let told = told_of(&rt, SUM, &request, &Silent);
+    ends(&rt, &told, 6, "\nverdict full\n");
+}
+
 fn stop_in(fault: &Fault) -> (u8, Option<PresetFault>) {
     match fault {
         Fault::Tokens(stop) => (fault.status().code(), Some(*stop)),
@@ -426,6 +458,32 @@ fn an_argument_may_be_negative(rt: HostRuntime) {
     let told = told_of(&rt, WITHIN, &request, &Silent);
     let low = Token::Word(18446744073709551516);
     compare_output(&rt, &told, &[low, low, Token::Word(7), Token::Word(100)]);
+}
+
+/// Multiplies words of a file by -3 / 2, and takes 7 from them.
+const TURNED: &str = r#"version = 1
+process = [
+  { name = "src", kind = "input" },
+  { name = "p", kind = "gain", args = [-3, 2] },
+  { name = "q", kind = "offset", args = [-7] },
+  { name = "snk", kind = "drain" },
+]
+channel = [{ name = "x", from = "src", to = "p" }, { name = "turned", from = "p", to = "q" }, { name = "y", from = "q", to = "snk" }]
+"#;
+
+/// The words of -150, -100, 7 and 101 become those of 218, 143, -18 and -159.
+#[test]
+fn gain_and_offset_take_negative_arguments(rt: HostRuntime) {
+    let words = "18446744073709551466\n18446744073709551516\n7\n101\n";
+    let request = asked(&rt, rt.alloc(), words, 1);
+    let told = told_of(&rt, TURNED, &request, &Silent);
+    let due = [
+        Token::Word(218),
+        Token::Word(143),
+        Token::Word(18446744073709551598),
+        Token::Word(18446744073709551457),
+    ];
+    compare_output(&rt, &told, &due);
 }
 
 const HELD: &str = r#"version = 2

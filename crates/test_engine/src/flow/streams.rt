@@ -1,8 +1,8 @@
 //! Streams between bytes in memory.
 use crate::checks::same;
 use hox_stream::{
-    Exits, Finish, LaidOut, NameFault, OpenStream, Outlet, Refusal, Served, StreamFault,
-    open_stream, serve,
+    Exits, Fill, Finish, LaidEnds, LaidOut, Moved, NameFault, NoOnlooker, Onlooker, OpenStream,
+    Outlet, Refusal, Served, StreamFault, open_stream, serve,
 };
 use kpn_body::Standard;
 use kpn_compute::Both;
@@ -14,6 +14,7 @@ use kpn_tokens::{
 };
 use std::alloc::Global;
 use std::process::Abort;
+use std::sync::atomic::{AtomicU64, Ordering};
 
 type Kinds = Both<Standard, Exits>;
 
@@ -47,12 +48,12 @@ fn opened<R: Abort>(
 }
 
 /// The name of a channel.
-fn name<R: Abort>(rt: &R, alloc: Global, name: &str) -> Text {
+pub(crate) fn name<R: Abort>(rt: &R, alloc: Global, name: &str) -> Text {
     Text::new(String::from_str(alloc, name).expect(rt, "no memory"))
 }
 
 /// One source, of bytes that are laid out so.
-fn sources_of<'a, R: Abort>(
+pub(crate) fn sources_of<'a, R: Abort>(
     rt: &R,
     alloc: Global,
     bytes: &'a [u8],
@@ -68,7 +69,7 @@ fn sources_of<'a, R: Abort>(
 }
 
 /// One sink, of bytes that are laid out so.
-fn sinks_of<R: Abort>(rt: &R, alloc: Global, layout: Layout) -> Vec<LaidOut<Vec<u8>>> {
+pub(crate) fn sinks_of<R: Abort>(rt: &R, alloc: Global, layout: Layout) -> Vec<LaidOut<Vec<u8>>> {
     let mut sinks = Vec::new(alloc);
     let sink = LaidOut {
         stream: Vec::new(alloc),
@@ -91,7 +92,12 @@ fn served_of<'a, R: Abort>(
     let (fed, drained) = (name(rt, alloc, "x"), name(rt, alloc, "y"));
     let stream = opened(rt, alloc, &[fed], &[drained]);
     let stream = stream.ok().expect(rt, "no stream");
-    serve(alloc, stream, sources, sinks, Vec::new(alloc)).expect(rt, "no memory")
+    let ends = LaidEnds {
+        sources,
+        sinks,
+        tables: Vec::new(alloc),
+    };
+    serve(alloc, stream, ends, &NoOnlooker).expect(rt, "no memory")
 }
 
 /// How many records were read and how many tokens were written, and how many of these were clipped.
@@ -99,6 +105,55 @@ fn counted<R: Abort>(rt: &R, served: &Served<Kinds, &[u8], Vec<u8>>) -> (u64, u6
     let inlet = served.inlets.as_slice().first().expect(rt, "no source");
     let outlet = served.outlets.as_slice().first().expect(rt, "no sink");
     (inlet.records(), outlet.tokens(), outlet.clipped())
+}
+
+/// An onlooker that keeps what it saw last.
+#[derive(Drop)]
+struct Seen {
+    channels: AtomicU64,
+    read: AtomicU64,
+    written: AtomicU64,
+}
+
+impl Onlooker for Seen {
+    fn is_due(&self) -> bool {
+        true
+    }
+
+    fn see_channel(&self, number: usize, fill: Fill<'_>) {
+        if number == 4 && fill.name == "y" && fill.tokens == 0 && fill.capacity == 1 {
+            self.channels.fetch_add(1, Ordering::SeqCst);
+        }
+    }
+
+    fn see_moved(&self, moved: Moved) {
+        self.read.store(moved.read, Ordering::SeqCst);
+        self.written.store(moved.written, Ordering::SeqCst);
+    }
+}
+
+#[test]
+fn an_onlooker_sees_how_many_tokens_came_and_went(rt: HostRuntime) {
+    let alloc = rt.alloc();
+    let seen = Seen {
+        channels: AtomicU64::new(0),
+        read: AtomicU64::new(0),
+        written: AtomicU64::new(0),
+    };
+    let ends = LaidEnds {
+        sources: sources_of(&rt, alloc, b"3\n-1\n300\n", Layout::PLAIN),
+        sinks: sinks_of(&rt, alloc, Layout::PLAIN),
+        tables: Vec::new(alloc),
+    };
+    let (fed, drained) = (name(&rt, alloc, "x"), name(&rt, alloc, "y"));
+    let stream = opened(&rt, alloc, &[fed], &[drained]);
+    let stream = stream.ok().expect(&rt, "no stream");
+    let served = serve(alloc, stream, ends, &seen).expect(&rt, "no memory");
+    let has_seen = seen.channels.load(Ordering::SeqCst) > 0;
+    same(&rt, "channel", has_seen, true);
+    same(&rt, "read", seen.read.load(Ordering::SeqCst), 3);
+    same(&rt, "written", seen.written.load(Ordering::SeqCst), 3);
+    drop(served);
 }
 
 /// Compares what was written to the one sink.

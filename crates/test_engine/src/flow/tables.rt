@@ -1,7 +1,8 @@
 //! Streams into files of several channels.
 use crate::checks::same;
 use hox_stream::{
-    Exits, Finish, LaidOut, LaidTable, MOST_AHEAD, Served, TableOutlet, open_stream, serve,
+    Exits, Finish, LaidEnds, LaidOut, LaidTable, MOST_AHEAD, NoOnlooker, Served, TableOutlet,
+    open_stream, serve,
 };
 use kpn_body::Standard;
 use kpn_compute::Both;
@@ -77,7 +78,12 @@ fn paired<'a, R: Abort>(
     let sketch = read_sketch(alloc, PAIRS.as_bytes()).expect(rt, "no sketch");
     let stream = open_stream::<Standard>(alloc, sketch, &[name(rt, alloc, "x")], drained);
     let stream = stream.ok().expect(rt, "no stream");
-    serve(alloc, stream, sources, outlets, tables).expect(rt, "no memory")
+    let ends = LaidEnds {
+        sources,
+        sinks: outlets,
+        tables,
+    };
+    serve(alloc, stream, ends, &NoOnlooker).expect(rt, "no memory")
 }
 
 /// The tokens that a column took, and those of them that were clipped.
@@ -247,7 +253,12 @@ fn apart<R: Abort>(rt: &R, alloc: Global, words: usize) -> (Finish, usize) {
     let stream = open_stream::<Standard>(alloc, sketch, &fed, &drained);
     let stream = stream.ok().expect(rt, "no stream");
     let sinks: Vec<LaidOut<Vec<u8>>> = Vec::new(alloc);
-    let mut served = serve(alloc, stream, sources, sinks, tables).expect(rt, "no memory");
+    let ends = LaidEnds {
+        sources,
+        sinks,
+        tables,
+    };
+    let mut served = serve(alloc, stream, ends, &NoOnlooker).expect(rt, "no memory");
     let written = written(rt, &mut served.tables);
     let end = (served.finish, written.len());
     drop(served);

@@ -1,8 +1,8 @@
-//! What each kind for signals writes, worked out by hand and with tests/interpreter.py; names, ports and
-//! help.
+//! Kinds for signals follow their tables; names, ports, arguments and help.
 ghost use Rattle.std.specs.Prelude.{◌<◌};
 
 use crate::checks::same;
+use crate::kinds::signal_tables::{GREATEST, LEAST, MORE_ROWS, ROWS, Row};
 use crate::kinds::{meant, ports_given};
 use kpn_compute::{Both, Computes};
 use kpn_model::Act::{Read, Stop, Write};
@@ -12,385 +12,18 @@ use kpn_signals::{HELP, Help, Signal, Signals, answer};
 use kpn_standard::Standard;
 use std::process::Abort;
 
-const LEAST: u64 = 1 << 63;
-
-const GREATEST: u64 = LEAST - 1;
-
-/// A kind, its arguments, the tokens of its two inputs, what it writes, and its act then.
-type Row = (
-    Signal,
-    [u64; 3],
-    &'static [Token],
-    &'static [Token],
-    &'static [Token],
-    Act,
-);
-
-static ROWS: [Row; 40] = [
-    (Signal::Input, [0, 0, 0], &[], &[], &[], Stop),
-    (Signal::InputFlags, [0, 0, 0], &[], &[], &[], Stop),
-    (
-        Signal::Drain,
-        [0, 0, 0],
-        &[Word(3), Word(5)],
-        &[],
-        &[],
-        Read(0),
-    ),
-    (
-        Signal::DrainFlags,
-        [0, 0, 0],
-        &[Flag(true), Flag(false)],
-        &[],
-        &[],
-        Read(0),
-    ),
-    (
-        Signal::Constant,
-        [7, 0, 0],
-        &[],
-        &[],
-        &[Word(7), Word(7), Word(7)],
-        Write(0, Word(7)),
-    ),
-    (
-        Signal::CountUp,
-        [0, 0, 0],
-        &[],
-        &[],
-        &[Word(0), Word(1), Word(2), Word(3)],
-        Write(0, Word(4)),
-    ),
-    (
-        Signal::Sub,
-        [0, 0, 0],
-        &[Word(5), Word(3), Word(0)],
-        &[Word(3), Word(5), Word(u64::MAX)],
-        &[Word(2), Word(u64::MAX - 1), Word(1)],
-        Read(0),
-    ),
-    (
-        Signal::Mul,
-        [0, 0, 0],
-        &[Word(3), Word(LEAST), Word(u64::MAX)],
-        &[Word(5), Word(2), Word(u64::MAX)],
-        &[Word(15), Word(0), Word(1)],
-        Read(0),
-    ),
-    (
-        Signal::Shift,
-        [0, 0, 0],
-        &[Word(5), Word(u64::MAX - 4)],
-        &[],
-        &[Word(5), Word(u64::MAX - 4)],
-        Read(0),
-    ),
-    (
-        Signal::Shift,
-        [1, 0, 0],
-        &[Word(5), Word(u64::MAX - 4), Word(LEAST), Word(GREATEST)],
-        &[],
-        &[
-            Word(2),
-            Word(u64::MAX - 2),
-            Word(u64::MAX - (1 << 62) + 1),
-            Word((1 << 62) - 1),
-        ],
-        Read(0),
-    ),
-    (
-        Signal::Shift,
-        [63, 0, 0],
-        &[Word(GREATEST), Word(LEAST)],
-        &[],
-        &[Word(0), Word(u64::MAX)],
-        Read(0),
-    ),
-    (
-        Signal::Left,
-        [0, 0, 0],
-        &[Word(5), Word(u64::MAX - 4)],
-        &[],
-        &[Word(5), Word(u64::MAX - 4)],
-        Read(0),
-    ),
-    (
-        Signal::Left,
-        [1, 0, 0],
-        &[Word(5), Word(u64::MAX - 4), Word(LEAST)],
-        &[],
-        &[Word(10), Word(u64::MAX - 9), Word(0)],
-        Read(0),
-    ),
-    (
-        Signal::Left,
-        [63, 0, 0],
-        &[Word(2), Word(3)],
-        &[],
-        &[Word(0), Word(LEAST)],
-        Read(0),
-    ),
-    (
-        Signal::Less,
-        [0, 0, 0],
-        &[
-            Word(1),
-            Word(2),
-            Word(2),
-            Word(u64::MAX),
-            Word(1),
-            Word(LEAST),
-        ],
-        &[
-            Word(2),
-            Word(1),
-            Word(2),
-            Word(1),
-            Word(u64::MAX),
-            Word(GREATEST),
-        ],
-        &[
-            Flag(true),
-            Flag(false),
-            Flag(false),
-            Flag(true),
-            Flag(false),
-            Flag(true),
-        ],
-        Read(0),
-    ),
-    (
-        Signal::Equal,
-        [0, 0, 0],
-        &[Word(1), Word(2), Word(u64::MAX)],
-        &[Word(2), Word(2), Word(u64::MAX)],
-        &[Flag(false), Flag(true), Flag(true)],
-        Read(0),
-    ),
-    (
-        Signal::Not,
-        [0, 0, 0],
-        &[Flag(true), Flag(false)],
-        &[],
-        &[Flag(false), Flag(true)],
-        Read(0),
-    ),
-    (
-        Signal::And,
-        [0, 0, 0],
-        &[Flag(false), Flag(false), Flag(true), Flag(true)],
-        &[Flag(false), Flag(true), Flag(false), Flag(true)],
-        &[Flag(false), Flag(false), Flag(false), Flag(true)],
-        Read(0),
-    ),
-    (
-        Signal::Or,
-        [0, 0, 0],
-        &[Flag(false), Flag(false), Flag(true), Flag(true)],
-        &[Flag(false), Flag(true), Flag(false), Flag(true)],
-        &[Flag(false), Flag(true), Flag(true), Flag(true)],
-        Read(0),
-    ),
-    (
-        Signal::Decimate,
-        [1, 0, 0],
-        &[Word(1), Word(2)],
-        &[],
-        &[Word(1), Word(2)],
-        Read(0),
-    ),
-    (
-        Signal::Decimate,
-        [3, 0, 0],
-        &[
-            Word(1),
-            Word(2),
-            Word(3),
-            Word(4),
-            Word(5),
-            Word(6),
-            Word(7),
-        ],
-        &[],
-        &[Word(1), Word(4), Word(7)],
-        Read(0),
-    ),
-    (
-        Signal::Repeat,
-        [1, 0, 0],
-        &[Word(4), Word(9)],
-        &[],
-        &[Word(4), Word(9)],
-        Read(0),
-    ),
-    (
-        Signal::Repeat,
-        [3, 0, 0],
-        &[Word(4), Word(9)],
-        &[],
-        &[Word(4), Word(4), Word(4), Word(9), Word(9), Word(9)],
-        Read(0),
-    ),
-    (
-        Signal::Hold,
-        [8, 0, 0],
-        &[Word(1), Word(2), Word(3), Word(4)],
-        &[Flag(false), Flag(true), Flag(false), Flag(true)],
-        &[Word(8), Word(2), Word(2), Word(4)],
-        Read(0),
-    ),
-    (
-        Signal::Delay,
-        [1, 0, 0],
-        &[Word(4), Word(5), Word(6)],
-        &[],
-        &[Word(0), Word(4), Word(5)],
-        Read(0),
-    ),
-    (
-        Signal::Delay,
-        [2, 0, 0],
-        &[Word(4), Word(5), Word(6)],
-        &[],
-        &[Word(0), Word(0), Word(4)],
-        Read(0),
-    ),
-    (
-        Signal::Delay,
-        [3, 0, 0],
-        &[Word(1), Word(2), Word(3), Word(4), Word(5)],
-        &[],
-        &[Word(0), Word(0), Word(0), Word(1), Word(2)],
-        Read(0),
-    ),
-    (
-        Signal::Delay,
-        [4, 0, 0],
-        &[Word(1), Word(2), Word(3), Word(4), Word(5), Word(6)],
-        &[],
-        &[Word(0), Word(0), Word(0), Word(0), Word(1), Word(2)],
-        Read(0),
-    ),
-    (
-        Signal::LowPass,
-        [0, 0, 0],
-        &[Word(GREATEST), Word(LEAST), Word(3)],
-        &[],
-        &[Word(GREATEST), Word(LEAST), Word(3)],
-        Read(0),
-    ),
-    (
-        Signal::LowPass,
-        [1, 0, 0],
-        &[Word(GREATEST), Word(LEAST)],
-        &[],
-        &[Word((1 << 62) - 1), Word(u64::MAX - (1 << 61))],
-        Read(0),
-    ),
-    (
-        Signal::LowPass,
-        [2, 0, 0],
-        &[
-            Word(100),
-            Word(100),
-            Word(u64::MAX - 99),
-            Word(u64::MAX),
-            Word(7),
-        ],
-        &[],
-        &[Word(25), Word(43), Word(7), Word(5), Word(5)],
-        Read(0),
-    ),
-    (
-        Signal::LowPass,
-        [63, 0, 0],
-        &[Word(LEAST), Word(GREATEST)],
-        &[],
-        &[Word(u64::MAX), Word(0)],
-        Read(0),
-    ),
-    (
-        Signal::Clip,
-        [u64::MAX - 4, 5, 0],
-        &[
-            Word(u64::MAX - 8),
-            Word(u64::MAX - 4),
-            Word(0),
-            Word(5),
-            Word(9),
-        ],
-        &[],
-        &[
-            Word(u64::MAX - 4),
-            Word(u64::MAX - 4),
-            Word(0),
-            Word(5),
-            Word(5),
-        ],
-        Read(0),
-    ),
-    (
-        Signal::Clip,
-        [LEAST, GREATEST, 0],
-        &[Word(LEAST), Word(0), Word(GREATEST)],
-        &[],
-        &[Word(LEAST), Word(0), Word(GREATEST)],
-        Read(0),
-    ),
-    (
-        Signal::SignedConstant,
-        [GREATEST, 1, 0],
-        &[],
-        &[],
-        &[Word(LEAST), Word(LEAST)],
-        Write(0, Word(LEAST)),
-    ),
-    (
-        Signal::SignedHold,
-        [6, 1, 0],
-        &[Word(3), Word(5), Word(8)],
-        &[Flag(false), Flag(true), Flag(false)],
-        &[Word(u64::MAX - 6), Word(5), Word(5)],
-        Read(0),
-    ),
-    (
-        Signal::SignedClip,
-        [99, 100, 1],
-        &[
-            Word(u64::MAX - 149),
-            Word(u64::MAX - 99),
-            Word(7),
-            Word(101),
-        ],
-        &[],
-        &[Word(u64::MAX - 99), Word(u64::MAX - 99), Word(7), Word(100)],
-        Read(0),
-    ),
-    (
-        Signal::SignedClip,
-        [GREATEST, 1, 2],
-        &[Word(LEAST), Word(u64::MAX), Word(0)],
-        &[],
-        &[Word(LEAST), Word(u64::MAX - 1), Word(u64::MAX - 1)],
-        Read(0),
-    ),
-    (
-        Signal::SignedScale,
-        [2, 1, 0],
-        &[Word(5), Word(u64::MAX), Word(LEAST)],
-        &[],
-        &[Word(u64::MAX - 14), Word(3), Word(LEAST)],
-        Read(0),
-    ),
-    (
-        Signal::SignedPrefix,
-        [4, 1, 0],
-        &[Word(7), Word(0)],
-        &[],
-        &[Word(u64::MAX - 4), Word(7), Word(0)],
-        Read(0),
-    ),
-];
+/// What `copy_flags` writes after each flag, to both outputs.
+#[test]
+fn copies_flags(rt: HostRuntime) {
+    for flag in [true, false] {
+        let first = answer(Signal::CopyFlags, [0; 3], [0; 4], Some(Flag(flag)));
+        let second = answer(Signal::CopyFlags, [0; 3], first.next, None);
+        let third = answer(Signal::CopyFlags, [0; 3], second.next, None);
+        let acts = [first.act, second.act, third.act];
+        let due = [Write(0, Flag(flag)), Write(1, Flag(flag)), Read(0)];
+        same(&rt, "copy_flags", acts, due);
+    }
+}
 
 /// More acts than any row takes.
 const MOST_ACTS: usize = 64;
@@ -434,6 +67,23 @@ fn signals_follow_their_tables(rt: HostRuntime) {
 }
 
 #[test]
+fn more_signals_follow_their_tables(rt: HostRuntime) {
+    for row in MORE_ROWS.iter() {
+        same(&rt, row.0.row().name, follow(&rt, row), (row.5, true));
+    }
+}
+
+/// The number of true flags is modulo 2^64, and so is the sum.
+#[test]
+fn counts_and_sums_wrap(rt: HostRuntime) {
+    let full = [u64::MAX, 0, 0, 0];
+    let counted = answer(Signal::Counter, [0; 3], full, Some(Flag(true)));
+    same(&rt, "counter", counted.act, Write(0, Word(0)));
+    let summed = answer(Signal::Sum, [0; 3], full, Some(Word(3)));
+    same(&rt, "sum", summed.act, Write(0, Word(2)));
+}
+
+#[test]
 fn count_up_wraps(rt: HostRuntime) {
     let wraps = answer(Signal::CountUp, [0; 3], [u64::MAX, 0, 0, 0], None);
     same(&rt, "next", wraps.next, [0; 4]);
@@ -445,7 +95,7 @@ const W: Option<Sort> = Some(Sort::Words);
 const F: Option<Sort> = Some(Sort::Flags);
 
 /// A line of help's ports, and the inputs and outputs that they mean.
-static PORTS: [(&str, [Option<Sort>; 3], [Option<Sort>; 3]); 10] = [
+static PORTS: [(&str, [Option<Sort>; 3], [Option<Sort>; 3]); 12] = [
     ("-> w", [None, None, None], [W, None, None]),
     ("-> f", [None, None, None], [F, None, None]),
     ("w ->", [W, None, None], [None, None, None]),
@@ -454,8 +104,10 @@ static PORTS: [(&str, [Option<Sort>; 3], [Option<Sort>; 3]); 10] = [
     ("w w -> w", [W, W, None], [W, None, None]),
     ("w w -> f", [W, W, None], [F, None, None]),
     ("f -> f", [F, None, None], [F, None, None]),
+    ("f -> w", [F, None, None], [W, None, None]),
     ("f f -> f", [F, F, None], [F, None, None]),
     ("w f -> w", [W, F, None], [W, None, None]),
+    ("f -> f f", [F, None, None], [F, F, None]),
 ];
 
 /// Returns the ports of a line of help; for an unknown line, more than any kind has.
@@ -477,18 +129,31 @@ fn ports_of(text: &str) -> Signature {
 fn arguments_of(text: &str) -> usize {
     match text {
         "" => 0,
-        "LO HI" => 2,
+        "LO HI" | "A B" => 2,
         _ => 1,
     }
 }
 
-const KINDS: u16 = 21;
-
 /// A static, since a constant is built anew at each use.
-static LINES: [Help; 21] = HELP;
+static LINES: [Help; 36] = HELP;
+
+const NAMES: u16 = 36;
+
+/// The first number of kinds with negative arguments, which have no line of help, between kinds that have one;
+/// and how many these are.
+const SIGNED_ONES: (u16, u16) = (21, 5);
+
+/// Returns the number of the kind of a line of help.
+fn number_of(line: u16) -> u16
+    requires { line < 36 }
+    ensures { result < 43 }
+{
+    let (first, ones) = SIGNED_ONES;
+    if line < first { line } else { line + ones }
+}
 
 fn compare_help<R: Abort>(rt: &R, number: u16, help: &Help)
-    requires { number < 21 }
+    requires { number < 43 }
 {
     let arguments = arguments_of(help.arguments);
     let found = [
@@ -510,8 +175,8 @@ fn compare_help<R: Abort>(rt: &R, number: u16, help: &Help)
 
 #[test]
 fn help_lists_the_kinds(rt: HostRuntime) {
-    for number in 0..KINDS {
-        compare_help(&rt, number, &LINES[usize::from(number)]);
+    for line in 0..NAMES {
+        compare_help(&rt, number_of(line), &LINES[usize::from(line)]);
     }
     let called = [
         Signal::SignedConstant.called_by(),
@@ -519,6 +184,8 @@ fn help_lists_the_kinds(rt: HostRuntime) {
         Signal::SignedClip.called_by(),
         Signal::SignedScale.called_by(),
         Signal::SignedPrefix.called_by(),
+        Signal::SignedOffset.called_by(),
+        Signal::SignedGain.called_by(),
     ];
     let due = [
         ("constant", 1),
@@ -526,14 +193,16 @@ fn help_lists_the_kinds(rt: HostRuntime) {
         ("clip", 2),
         ("scale", 1),
         ("prefix", 1),
+        ("offset", 1),
+        ("gain", 2),
     ];
     same(&rt, "called", called, due);
-    same(&rt, "numbered", Signal::numbered(KINDS + 5), None);
+    same(&rt, "numbered", Signal::numbered(43), None);
     same(&rt, "named", meant::<Signals>("count"), None);
 }
 
 /// A kind's number, arguments, and whether it accepts them.
-static ARGUMENTS: [(u16, [u64; 3], bool); 27] = [
+static ARGUMENTS: [(u16, [u64; 3], bool); 45] = [
     (2, [0, 0, 0], true),
     (2, [1, 0, 0], false),
     (4, [u64::MAX, 0, 0], true),
@@ -560,7 +229,25 @@ static ARGUMENTS: [(u16, [u64; 3], bool); 27] = [
     (24, [GREATEST, 1, 0], true),
     (24, [2, 0, 0], false),
     (25, [LEAST, 1, 0], false),
-    (26, [0, 0, 0], false),
+    (26, [0, 0, 0], true),
+    (26, [0, 1, 0], false),
+    (27, [1, 0, 0], false),
+    (30, [u64::MAX, 0, 0], true),
+    (31, [u64::MAX, 1, 0], true),
+    (31, [1, 0, 0], false),
+    (31, [1, 1, 1], false),
+    (36, [0, 0, 0], false),
+    (36, [5, 0, 0], true),
+    (36, [6, 0, 0], false),
+    (39, [u64::MAX, 0, 0], true),
+    (39, [1, 1, 0], false),
+    (41, [GREATEST, 1, 0], true),
+    (41, [LEAST, 1, 0], false),
+    (42, [GREATEST, 1, 1], true),
+    (42, [4, 0, 1], false),
+    (42, [4, 3, 2], false),
+    (42, [LEAST, 3, 1], false),
+    (43, [0, 0, 0], false),
 ];
 
 #[test]

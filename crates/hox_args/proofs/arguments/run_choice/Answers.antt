@@ -15,6 +15,7 @@ returns-clause-ok c = (
     budget = rw c.text_in-2.ensures at c.in_ok-budget.ensures.ok;
     workers = rw c.text_in.ensures at c.in_ok-workers.ensures.ok;
     progress = c.has_flag-progress.ensures;
+    json = c.has_flag-json.ensures;
     quiet = c.has_flag-quiet.ensures;
   },
 )

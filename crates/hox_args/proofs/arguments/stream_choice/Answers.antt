@@ -11,6 +11,8 @@ returns-clause-ok c = (
     outputs = c.in_ok-written.ensures.ok;
     formats = c.in_ok-formats.ensures.ok;
     unsigned = c.in_ok-texts_in.ensures.ok;
-    quiet = c.has_flag.ensures;
+    progress = c.has_flag.ensures;
+    watch = c.has_flag-2.ensures;
+    quiet = c.has_flag-3.ensures;
   },
 )

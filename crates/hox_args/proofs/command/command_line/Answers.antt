@@ -2,4 +2,4 @@
 use Rattle.hox_args.proofs.command.command_line.Goals as goal
 
 pub returns : goal.returns
-returns c = c.with_subcommand.ensures _ _ (c.with_subcommand-command.ensures _ _ c.check_and_run.ensures c.draw.ensures) c.stream.ensures
+returns c = c.with_subcommand.ensures _ _ c.commands_on_files.ensures c.kinds.ensures

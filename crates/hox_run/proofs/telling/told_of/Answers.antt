@@ -2,10 +2,11 @@
 use Rattle.std.proofs.Common.{◌≡◌, ◌++◌, true, None, string_bytes, sym}
 use Rattle.kpn_model.specs.Network.{family_of}
 use Rattle.kpn_model.specs.Endings.{has_report}
-use Rattle.kpn_model.specs.Verdicts.{IsVerdict}
+use Rattle.kpn_dry.specs.Told.{is_told_dry}
 use Rattle.kpn_report.specs.Text.{report_text}
 use Rattle.kpn_verdict.specs.VerdictText.{verdict_line}
 use Rattle.hox_run.specs.Cuts.{after_verdict, before_verdict, left_at}
+use Rattle.hox_run.specs.Judging.{IsJudged, active_part}
 use Rattle.hox_run.specs.Telling.{places_in}
 use Rattle.hox_run.proofs.ToldRuns.{moved, told_so}
 use Rattle.hox_run.proofs.telling.told_of.Goals as goal
@@ -23,12 +24,14 @@ returns g c =
     let history_is = c.requires.entries in
     let places_are = c.as_slice.ensures.value in
     let standings_are = c.standings-standings.ensures in
-    let judged = moved (λ net E ps. IsVerdict net ps cause verdict) s.network _ s.history _ places _ net_is history_is places_are c.in_ok-judged.ensures.verdict in
-    let told = moved (λ net E ps. (has_report cause ≡ true → ps ≡ places_in kinds net s.state) → string_bytes report ≡ report_text kinds net cause E s.state None ++ before_verdict net cause E c.args.wanted.now.show.now ++ verdict_line net ps verdict ++ after_verdict net cause E (left_at s.standings ps) c.args.wanted.now.show.now)
+    let show = c.args.wanted.now.show.now in
+    let outputs = c.args.wanted.now.outputs.now in
+    let judged = moved (λ net E ps. IsJudged net (is_told_dry net s.standings) show outputs ps cause verdict) s.network _ s.history _ places _ net_is history_is places_are (rw standings_are at c.in_ok-judged.ensures.verdict) in
+    let told = moved (λ net E ps. (has_report cause ≡ true → ps ≡ places_in kinds net s.state) → string_bytes report ≡ report_text kinds net cause E s.state None ++ before_verdict net cause E show ++ verdict_line net ps verdict ++ active_part net (is_told_dry net s.standings) cause verdict ++ after_verdict net cause E (left_at s.standings ps) show)
     s.network _ s.history _ places _ net_is history_is places_are (rw standings_are at (c.in_ok-judged.ensures.report kinds s.state)) in
     told_so kinds g.K.Kinds.admits s cause places verdict c.args.wanted.now.show.now c.args.wanted.now.outputs.now _ faithful
     (c.least_room_of.ensures.each_run _ _ _ faithful.run) (c.least_solution_of.ensures.each_run _ _ _ faithful.run)
-    c.determinacy_of.ensures.all_comparable c.determinacy_of.ensures.one_digest (sym c.in-Some.ensures.end)
+    c.determinacy_of.ensures.all_comparable c.determinacy_of.ensures.one_digest c.dryness_of.ensures.whole (sym c.in-Some.ensures.end)
     (rw (c.net-net.ensures, c.standings-standings.ensures) at c.in_ok-places.ensures)
     judged
     (rw c.as_slice-2.ensures.value at c.status_with.ensures)

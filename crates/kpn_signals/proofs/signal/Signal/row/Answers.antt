@@ -1,7 +1,7 @@
 -- The name in a kind's row means this kind.
 use Rattle.std.proofs.Common.{◌≡◌, Some, refl}
 use Rattle.kpn_signals.specs.declared.signal.Signal.{Signal}
-use Rattle.kpn_signals.specs.declared.signal.Signal.TheVariants.{Input, InputFlags, Drain, DrainFlags, Constant, CountUp, Sub, Mul, Shift, Left, Less, Equal, Not, And, Or, Decimate, Repeat, Hold, Delay, LowPass, Clip, SignedConstant, SignedHold, SignedClip, SignedScale, SignedPrefix}
+use Rattle.kpn_signals.specs.declared.signal.Signal.TheVariants.{Input, InputFlags, Drain, DrainFlags, Constant, CountUp, Sub, Mul, Shift, Left, Less, Equal, Not, And, Or, Decimate, Repeat, Hold, Delay, LowPass, Clip, SignedConstant, SignedHold, SignedClip, SignedScale, SignedPrefix, CopyFlags, Min, Max, Abs, Offset, Gain, Div, Mod, Sum, Difference, Average, Counter, Edge, Noise, Gate, SignedOffset, SignedGain}
 use Rattle.kpn_signals.specs.Table.{row_of}
 use Rattle.kpn_signals.specs.Signatures.{number_named}
 use Rattle.kpn_signals.proofs.signal.Signal.row.Goals as goal
@@ -33,6 +33,23 @@ means_itself SignedHold = refl
 means_itself SignedClip = refl
 means_itself SignedScale = refl
 means_itself SignedPrefix = refl
+means_itself CopyFlags = refl
+means_itself Min = refl
+means_itself Max = refl
+means_itself Abs = refl
+means_itself Offset = refl
+means_itself Gain = refl
+means_itself Div = refl
+means_itself Mod = refl
+means_itself Sum = refl
+means_itself Difference = refl
+means_itself Average = refl
+means_itself Counter = refl
+means_itself Edge = refl
+means_itself Noise = refl
+means_itself Gate = refl
+means_itself SignedOffset = refl
+means_itself SignedGain = refl
 
 pub returns-clause-means : goal.returns-clause-means
 returns-clause-means c = rw (c.heading-number.ensures.name, c.heading-number.ensures.number, c.heading-number.ensures.arguments, means_itself c.args.self)

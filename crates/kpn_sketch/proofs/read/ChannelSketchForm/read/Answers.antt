@@ -9,5 +9,5 @@ use Rattle.kpn_sketch.proofs.read.ChannelSketchForm.read.Goals as goal
 pub returns-in-Some : goal.returns-in-Some
 returns-in-Some c =
     let found : as_table (view c.args.value.now) ≡ Some (table_view c.in-Some.table.now) = search rules in
-    let known : has_only (channel_keys c.args.version) (table_view c.in-Some.table.now) ≡ true = search rules in
+    let known : has_only (channel_keys c.args.reading) (table_view c.in-Some.table.now) ≡ true = search rules in
     rw (found, known) c.channel_from.ensures

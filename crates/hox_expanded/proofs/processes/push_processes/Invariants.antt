@@ -1,0 +1,7 @@
+use Rattle.std.proofs.Common.{◌≡◌, ◌++◌, string_bytes}
+use Rattle.kpn_model.specs.NamesAndLines.{lines_upto}
+use Rattle.hox_expanded.specs.Description.{process_line}
+use Rattle.hox_expanded.proofs.processes.push_processes.Given as goal
+
+abbrev pub invariant-loop-p : goal.invariant-loop-p
+invariant-loop-p g l = string_bytes l.out ≡ string_bytes l.initial.out ++ lines_upto (process_line l.net g.K.Titled.title) l.p

@@ -1,0 +1,99 @@
+//! Processes, a line each.
+ghost use Rattle.std.specs.Prelude.{◌≡◌, ◌++◌, ◌<◌, OnOk, IsSome, length, string_bytes};
+ghost use Rattle.kpn_model.specs.Network.{card_of};
+ghost use Rattle.kpn_model.specs.NamesAndLines.{lines_upto};
+ghost use Rattle.kpn_picture.specs.Titles.{below};
+ghost use Rattle.hox_expanded.specs.Description.{argument_text, arguments_part, kind_part, later_argument, process_line};
+
+use crate::channels::push_name;
+use kpn_model::{Card, Kinds};
+use kpn_network::Net;
+use kpn_network::names::process_name;
+use kpn_picture::Titled;
+use std::alloc::AllocError;
+use std::fmt::Write;
+
+/// Returns how many arguments of a card, from the first on, are below 0.
+fn below(card: &Card, arity: usize) -> u64
+    ensures { result ≡ below card.now arity }
+{
+    if arity < 3 { card.args[arity] } else { 0 }
+}
+
+fn push_argument(out: &mut String, card: &Card, arity: usize, k: usize) -> Result<(), AllocError>
+    requires { k < 3 }
+    ensures { OnOk result (string_bytes out.new ≡ string_bytes out.old ++ argument_text arity card.now k) }
+{
+    let argument = card.args[k];
+    if (k as u64) < below(card, arity) {
+        let magnitude = u128::from(argument) + 1;
+        write!(out, "-{magnitude}")
+    } else {
+        write!(out, "{argument}")
+    }
+}
+
+/// Appends argument `k` after others, if the kind has it.
+fn push_later(out: &mut String, card: &Card, arity: usize, k: usize) -> Result<(), AllocError>
+    requires { k < 3 }
+    ensures { OnOk result (string_bytes out.new ≡ string_bytes out.old ++ later_argument arity card.now k) }
+{
+    if k >= arity {
+        return Ok(());
+    }
+    out.push_str(", ")?;
+    push_argument(out, card, arity, k)
+}
+
+fn push_arguments(out: &mut String, card: &Card, arity: usize) -> Result<(), AllocError>
+    ensures { OnOk result (string_bytes out.new ≡ string_bytes out.old ++ arguments_part arity card.now) }
+{
+    if arity == 0 {
+        return Ok(());
+    }
+    out.push_str(", args = [")?;
+    push_argument(out, card, arity, 0)?;
+    push_later(out, card, arity, 1)?;
+    push_later(out, card, arity, 2)?;
+    out.push_str("]")?;
+    Ok(())
+}
+
+/// Returns the card of a process, which has a signature.
+fn card<K: Kinds>(net: &Net<K>, p: usize) -> Card
+    requires { p < length net.now.processes }
+    ensures is { result ≡ card_of net.now p }
+    ensures signed { IsSome (K.signature result) }
+{
+    let _valid = net.processes();
+    net.card(p)
+}
+
+fn push_kind(out: &mut String, kind: &str) -> Result<(), AllocError>
+    ensures { OnOk result (string_bytes out.new ≡ string_bytes out.old ++ kind_part kind.now) }
+{
+    write!(out, "\", kind = \"{kind}\"")
+}
+
+fn push_process<K: Titled>(out: &mut String, net: &Net<K>, p: usize) -> Result<(), AllocError>
+    requires { p < length net.now.processes }
+    ensures { OnOk result (string_bytes out.new ≡ string_bytes out.old ++ process_line net.now K.title p) }
+{
+    let name = process_name(net, p);
+    let card = card(net, p);
+    let (kind, arity) = K::title(&card);
+    push_name(out, name)?;
+    push_kind(out, kind)?;
+    push_arguments(out, &card, arity)?;
+    out.push_str(" },\n")?;
+    Ok(())
+}
+
+pub(crate) fn push_processes<K: Titled>(out: &mut String, net: &Net<K>) -> Result<(), AllocError>
+    ensures { OnOk result (string_bytes out.new ≡ string_bytes out.old ++ lines_upto (process_line net.now K.title) (length net.now.processes)) }
+{
+    for p in 0..net.processes() {
+        push_process(out, net, p)?;
+    }
+    Ok(())
+}

@@ -1,0 +1,43 @@
+-- Delays: tokens that a channel holds before its start tokens.
+use Rattle.std.specs.Prelude.{ℕ, zero, suc, ℤ, pos, negsuc, Bool, false, ◌+◌, if◌then◌else◌, nat_le, List, [], ◌∷◌, ◌++◌, length, replicate, slice_index_or, Option}
+use Rattle.std.specs.Int.{int_max}
+use Rattle.kpn_model.specs.declared.token.Sort.{Sort}
+use Rattle.kpn_model.specs.declared.token.Sort.TheVariants.{Words, Flags}
+use Rattle.kpn_model.specs.declared.limits.TheConstants.{HIGH_CEILING}
+use Rattle.kpn_model.specs.declared.kinds.Card.{Card}
+use Rattle.kpn_model.specs.declared.kinds.Signature.{Signature}
+use Rattle.kpn_sketch.specs.declared.sketch.TokenSketch.{TokenSketch}
+use Rattle.kpn_sketch.specs.declared.sketch.TokenSketch.TheVariants.{Integer, Boolean}
+use Rattle.kpn_sketch.specs.declared.sketch.ChannelSketch.{ChannelSketch}
+use Rattle.kpn_sketch.specs.declared.sketch.Delay.{Delay}
+use Rattle.kpn_sketch.specs.declared.sketch.Sketch.{Sketch}
+use Rattle.hox_network.specs.Ports.{sort_by_ports}
+
+abbrev pub zero_of : Sort → TokenSketch
+zero_of Words = Integer (pos 0)
+zero_of Flags = Boolean false
+
+-- the channel with n zeros before its start tokens, and room for all
+abbrev pub holding_first : ℕ → Sort → ChannelSketch → ChannelSketch
+holding_first n sort c =
+    let tokens = replicate n (zero_of sort) ++ c.tokens in
+    record c { capacity = int_max c.capacity (pos (length tokens)); tokens = tokens }
+
+-- a delay for which no channel has room becomes the capacity, which no channel has
+abbrev pub delayed : Sort → ℤ → ChannelSketch → ChannelSketch
+delayed sort (pos zero) c = c
+delayed sort (pos (suc n)) c = if nat_le (suc n) HIGH_CEILING then holding_first (suc n) sort c else record c { capacity = pos (suc n) }
+delayed sort (negsuc n) c = record c { capacity = negsuc n }
+
+-- channel n delays by this
+abbrev pub delay_at : List Delay → ℕ → ℤ
+delay_at delays n = (slice_index_or delays n (record { tokens = pos 0 })).tokens
+
+module _ (named : List ℕ → Option (ℕ × ℕ)) (signature : Card → Option Signature) (delays : List Delay) where
+  -- the channels from number n on, with their delays
+  abbrev pub delayed_from : Sketch → ℕ → List ChannelSketch → List ChannelSketch
+  delayed_from sketch n [] = []
+  delayed_from sketch n (c ∷ cs) = delayed (sort_by_ports named signature sketch c) (delay_at delays n) c ∷ delayed_from sketch (n + 1) cs
+
+  abbrev pub with_delays : Sketch → Sketch
+  with_delays sketch = record sketch { channels = delayed_from sketch 0 sketch.channels }

@@ -1,0 +1,3 @@
+pub mod DryRuns
+pub mod Walk
+pub mod Told

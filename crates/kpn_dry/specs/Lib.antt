@@ -1,0 +1,3 @@
+pub mod Dry
+pub mod Told
+pub mod ActiveLine

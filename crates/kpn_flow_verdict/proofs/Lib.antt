@@ -1,0 +1,2 @@
+pub mod FlowRuns
+pub mod Outputs

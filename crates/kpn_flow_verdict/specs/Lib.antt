@@ -1,0 +1,2 @@
+pub mod FlowDry
+pub mod Judging

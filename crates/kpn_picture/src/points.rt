@@ -1,0 +1,92 @@
+//! The points at which channels branch.
+ghost use Rattle.std.specs.Prelude.{◌≡◌, ◌<◌, ◌++◌, ◌&&◌, false, OnOk, length, string_bytes};
+ghost use Rattle.std.specs.Option.{option_map_or};
+ghost use Rattle.kpn_model.specs.Network.{channel_of};
+ghost use Rattle.kpn_picture.specs.Picture.{has_name_of, has_name_of_point, is_copy, is_point, names_channel, point_line, point_opening};
+
+use crate::looks::push_closing;
+use crate::nodes::card;
+use crate::titles::Titled;
+use kpn_model::{Ends, Kinds};
+use kpn_network::Net;
+use kpn_network::names::{channel_name, process_name};
+use std::alloc::AllocError;
+use std::fmt::Write;
+
+/// Whether a process is a copy that has the name of the channel that it reads, or of the first that it writes.
+pub(crate) fn is_point<K: Titled>(net: &Net<K>, p: usize) -> bool
+    requires { p < length net.now.processes }
+    ensures { result ≡ is_point net.now K.title p }
+{
+    let (kind, _) = K::title(&card(net, p));
+    is_copy(kind) && names_channel(net, p)
+}
+
+fn is_copy(kind: &str) -> bool
+    ensures { result ≡ is_copy kind.now }
+{
+    kind == "copy" || kind == "copy_flags"
+}
+
+fn names_channel<K: Kinds>(net: &Net<K>, p: usize) -> bool
+    requires { p < length net.now.processes }
+    ensures { result ≡ names_channel net.now p }
+{
+    names_one(net, p, net.in_of(p, 0)) || names_one(net, p, net.out_of(p, 0))
+}
+
+fn names_one<K: Kinds>(net: &Net<K>, p: usize, channel: Option<usize>) -> bool
+    ensures { result ≡ option_map_or (has_name_of net.now p) channel false }
+{
+    match channel {
+        Some(c) => has_name_of(net, p, c),
+        None => false,
+    }
+}
+
+/// Whether a channel has the name of the point that it leads from or to.
+pub(crate) fn has_name_of_point<K: Titled>(net: &Net<K>, c: usize) -> bool
+    requires { c < length net.now.channels }
+    ensures { result ≡ has_name_of_point net.now K.title c }
+{
+    let ends = ends_of(net, c);
+    is_point_named(net, ends.writer, c) || is_point_named(net, ends.reader, c)
+}
+
+fn is_point_named<K: Titled>(net: &Net<K>, p: usize, c: usize) -> bool
+    requires { p < length net.now.processes }
+    ensures { result ≡ is_point net.now K.title p && has_name_of net.now p c }
+{
+    is_point(net, p) && has_name_of(net, p, c)
+}
+
+/// Returns the two ends of a channel, which are processes.
+pub(crate) fn ends_of<K: Kinds>(net: &Net<K>, c: usize) -> Ends
+    requires { c < length net.now.channels }
+    ensures writer { result.writer ≡ (channel_of net.now c).writer }
+    ensures reader { result.reader ≡ (channel_of net.now c).reader }
+    ensures writes { result.writer < length net.now.processes }
+    ensures reads { result.reader < length net.now.processes }
+{
+    net.assure_valid();
+    net.ends(c)
+}
+
+fn has_name_of<K: Kinds>(net: &Net<K>, p: usize, c: usize) -> bool
+    ensures { result ≡ has_name_of net.now p c }
+{
+    process_name(net, p) == channel_name(net, c)
+}
+
+pub(crate) fn push_point(out: &mut String, name: &str, look: &str) -> Result<(), AllocError>
+    ensures { OnOk result (string_bytes out.new ≡ string_bytes out.old ++ point_line name.now look.now) }
+{
+    push_opening(out, name)?;
+    push_closing(out, look)
+}
+
+fn push_opening(out: &mut String, name: &str) -> Result<(), AllocError>
+    ensures { OnOk result (string_bytes out.new ≡ string_bytes out.old ++ point_opening name.now) }
+{
+    write!(out, "  \"{name}\" [shape=point, width=0.08, label=\"")
+}
