@@ -1,6 +1,6 @@
 -- A hand's tasks and answers, with one more and one less.
-use Rattle.std.proofs.Common.{◌≡◌, inl, inr, ℕ, ◌+◌, ◌<◌, zero, suc, List, [], ◌∷◌, ◌++◌, length, refl, ap, sym, subst, ◌∙◌, arith, length-append}
-use Rattle.std.specs.Prelude.{◌≢◌, Option, Some, None, IsSome, IfSome, IfNone, slice_get, slice_index_or}
+use Rattle.std.proofs.Common.{◌≡◌, inl, inr, Bool, true, false, ℕ, ◌+◌, ◌<◌, zero, suc, List, [], ◌∷◌, ◌++◌, length, refl, ap, sym, subst, ◌∙◌, arith, length-append}
+use Rattle.std.specs.Prelude.{◌≢◌, Option, Some, None, IsSome, slice_get, slice_index_or}
 use mathlib.Core.List.{IsPrefix}
 use Rattle.kpn_watch.proofs.Fronts.{prefix_self, prefix_trans}
 use Rattle.std.specs.List.{All, sum_by}
@@ -138,10 +138,10 @@ gave_all kinds s tasks outcomes t left None is goes_on ended = went_on kinds s t
 gave_all kinds s tasks outcomes t left (Some e) is goes_on ended = gave_on kinds s tasks outcomes t [] (ended (λ none. cc)).1
 
 -- whether the run goes on, has ended or an answer was refused
-pub gave : (kinds : Family) (s : MachineView) (tasks : List Input) (outcomes : List Outcome) (t : MachineView) (left : List Input) (refused : Option Input)
-    → IfNone refused (t.end ≡ None → Gives kinds s tasks outcomes left t []) → IfNone refused (t.end ≢ None → (left ≡ []) × GivesBack kinds s tasks outcomes t []) → IfSome refused (λ i. GivesBack kinds s tasks outcomes t (i ∷ left)) → WentOn s t (sum_by entries_appended outcomes)
-gave kinds s tasks outcomes t left None goes_on ended refused = gave_all kinds s tasks outcomes t left t.end refl goes_on ended
-gave kinds s tasks outcomes t left (Some i) goes_on ended refused = gave_on kinds s tasks outcomes t (i ∷ left) refused
+pub gave : (kinds : Family) (s : MachineView) (tasks : List Input) (outcomes : List Outcome) (t : MachineView) (left : List Input) (refused : Bool)
+    → (refused ≡ false → t.end ≡ None → Gives kinds s tasks outcomes left t []) → (refused ≡ false → t.end ≢ None → (left ≡ []) × GivesBack kinds s tasks outcomes t []) → (refused ≡ true → GivesBack kinds s tasks outcomes t left) → WentOn s t (sum_by entries_appended outcomes)
+gave kinds s tasks outcomes t left false goes_on ended refused = gave_all kinds s tasks outcomes t left t.end refl (goes_on refl) (ended refl)
+gave kinds s tasks outcomes t left true goes_on ended refused = gave_on kinds s tasks outcomes t left (refused refl)
 
 pub some_end : {X : Type 0} (e : Option X) → IsSome e → e ≢ None
 some_end None some is = absurd (cc)

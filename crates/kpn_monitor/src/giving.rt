@@ -1,5 +1,5 @@
 //! Commits the answers of a hand to a machine.
-ghost use Rattle.std.specs.Prelude.{◌≡◌, ◌+◌, ◌<◌, ◌≤◌, [], ◌∷◌, length, slice_get, Some, MatchOption};
+ghost use Rattle.std.specs.Prelude.{◌≡◌, ◌+◌, ◌<◌, ◌≤◌, [], ◌∷◌, length, slice_get, Some, IsTrue, ◌↔◌};
 ghost use Rattle.std.specs.List.{All};
 ghost use Rattle.kpn_model.specs.Families.{family};
 ghost use Rattle.kpn_body.specs.Input.{Input};
@@ -61,46 +61,34 @@ fn give_first<B: Body, H: Keeper>(machine: &mut Machine<B, H>, places: &mut Plac
     give_up(machine, places);
 }
 
-/// For an answer that the machine did not ask for.
-#[cold]
-#[inline(never)]
-fn refuse<B: Body>(places: &mut Places<B>) -> Finished<B>
-    requires { 0 < places.old.called }
-    ensures first { places.old.tasks ≡ result ∷ places.new.tasks }
-    ensures called { places.old.called ≡ places.new.called + 1 }
-    ensures again { places.new.again ≡ places.old.again }
-    ensures outcomes { places.new.outcomes ≡ places.old.outcomes }
-{
-    places.leave()
-}
-
 /// Commits the answers, one after the other. At most `keep` processes that can continue go out again at once.
-/// Stops at an answer that the machine did not ask for, and returns it.
+/// Stops at an answer that the machine did not ask for, and returns whether there is one.
 #[inline(always)]
 pub(crate) fn give_all<B: Body, H: Keeper>(
     machine: &mut Machine<B, H>,
     places: &mut Places<B>,
     keep: usize,
-) -> Option<Finished<B>>
+) -> bool
     requires none { places.old.outcomes ≡ [] }
     requires kept { places.old.again ≡ [] }
     requires few { length places.old.tasks ≤ 64 }
     requires within { places.old.called ≤ length places.old.tasks }
-    ensures machine { MatchOption result (Gives (family B.Kinds.Kinds) machine.old places.old.tasks places.new.outcomes places.new.again machine.new places.new.tasks) (λ i. Gives (family B.Kinds.Kinds) machine.old places.old.tasks places.new.outcomes places.new.again machine.new (i ∷ places.new.tasks)) }
+    ensures machine { Gives (family B.Kinds.Kinds) machine.old places.old.tasks places.new.outcomes places.new.again machine.new places.new.tasks }
     ensures network { machine.new.network ≡ machine.old.network }
-    ensures committed { MatchOption result (WereCommitted (family B.Kinds.Kinds) B.Kinds.admits machine.old.network places.old.tasks places.new.outcomes places.new.tasks) (λ i. WereCommitted (family B.Kinds.Kinds) B.Kinds.admits machine.old.network places.old.tasks places.new.outcomes (i ∷ places.new.tasks)) }
+    ensures committed { WereCommitted (family B.Kinds.Kinds) B.Kinds.admits machine.old.network places.old.tasks places.new.outcomes places.new.tasks }
     ensures taken { All (WasTaken (family B.Kinds.Kinds) B.Kinds.admits machine.old.network) places.new.again }
     ensures most { length places.new.again ≤ keep }
-    ensures called { MatchOption result ((places.new.called ≡ 0) × (length places.new.outcomes ≡ places.old.called)) (λ _. places.new.called + 1 + length places.new.outcomes ≡ places.old.called) }
-    ensures count { MatchOption result (length places.new.tasks + length places.new.outcomes ≡ length places.old.tasks) (λ _. length places.new.tasks + 1 + length places.new.outcomes ≡ length places.old.tasks) }
+    ensures called { places.new.called + length places.new.outcomes ≡ places.old.called }
+    ensures count { length places.new.tasks + length places.new.outcomes ≡ length places.old.tasks }
+    ensures refused { IsTrue result ↔ (0 < places.new.called) }
 {
     while places.has_answer() {
         if !machine.has_sent(places.first()) {
-            return Some(refuse(places));
+            return true;
         }
         give_first(machine, places, keep);
     }
-    None
+    false
 }
 
 /// Takes back the tasks that went out again, except any whose process is no longer out.

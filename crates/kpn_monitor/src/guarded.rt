@@ -173,31 +173,31 @@ impl<B: Body, E: EntryLedger, O: Ledger, H: Keeper> Guarded<B, E, O, H> {
     }
 
     /// Commits the answers of a hand, publishes and books the new entries. At most `keep` processes go out
-    /// again at once. Stops at an answer that the machine did not ask for, and returns it.
+    /// again at once. Stops at an answer that the machine did not ask for, and returns whether there is one.
     pub(crate) fn give(
         &mut self,
         board: &Board,
         hand: &mut Hand<B>,
         seat: &mut Seat<E, O>,
         keep: usize,
-    ) -> Option<Finished<B>>
+    ) -> bool
         requires board { board.now ≡ E.board }
         requires called { hand.old.called ≡ length hand.old.tasks }
-        ensures refused { IfSome result (λ i. GivesBack (family B.Kinds.Kinds) self.old.machine hand.old.tasks hand.new.outcomes self.new.machine (i ∷ hand.new.tasks)) }
-        ensures goes_on { IfNone result (self.new.machine.end ≡ None → Gives (family B.Kinds.Kinds) self.old.machine hand.old.tasks hand.new.outcomes hand.new.tasks self.new.machine []) }
-        ensures ended { IfNone result (self.new.machine.end ≢ None → (hand.new.tasks ≡ []) × GivesBack (family B.Kinds.Kinds) self.old.machine hand.old.tasks hand.new.outcomes self.new.machine []) }
-        ensures committed { MatchOption result (WereCommitted (family B.Kinds.Kinds) B.Kinds.admits E.net hand.old.tasks hand.new.outcomes []) (λ i. WereCommitted (family B.Kinds.Kinds) B.Kinds.admits E.net hand.old.tasks hand.new.outcomes (i ∷ hand.new.tasks)) }
-        ensures taken { IfNone result (All (WasTaken (family B.Kinds.Kinds) B.Kinds.admits E.net) hand.new.tasks) }
-        ensures most { IfNone result (length hand.new.tasks ≤ keep) }
-        ensures called { MatchOption result (hand.new.called ≡ 0) (λ _. hand.new.called ≡ length hand.new.tasks) }
+        ensures refused { result ≡ true → GivesBack (family B.Kinds.Kinds) self.old.machine hand.old.tasks hand.new.outcomes self.new.machine hand.new.tasks × WereCommitted (family B.Kinds.Kinds) B.Kinds.admits E.net hand.old.tasks hand.new.outcomes hand.new.tasks }
+        ensures left { result ≡ true → (0 < hand.new.called) × (hand.new.called ≡ length hand.new.tasks) }
+        ensures goes_on { result ≡ false → self.new.machine.end ≡ None → Gives (family B.Kinds.Kinds) self.old.machine hand.old.tasks hand.new.outcomes hand.new.tasks self.new.machine [] }
+        ensures ended { result ≡ false → self.new.machine.end ≢ None → (hand.new.tasks ≡ []) × GivesBack (family B.Kinds.Kinds) self.old.machine hand.old.tasks hand.new.outcomes self.new.machine [] }
+        ensures committed { result ≡ false → WereCommitted (family B.Kinds.Kinds) B.Kinds.admits E.net hand.old.tasks hand.new.outcomes [] }
+        ensures taken { result ≡ false → All (WasTaken (family B.Kinds.Kinds) B.Kinds.admits E.net) hand.new.tasks }
+        ensures most { result ≡ false → (length hand.new.tasks ≤ keep) × (hand.new.called ≡ 0) }
         ensures seat { seat.new ≡ record seat.old { entries = seat.old.entries + sum_by entries_appended hand.new.outcomes } }
     {
         let before = self.machine.entries();
-        let refused = hand.give(&mut self.machine, keep);
+        let is_refused = hand.give(&mut self.machine, keep);
         publish(&self.machine, &mut self.publisher, board);
         let more = self.machine.entries() - before;
         seat.add_entries(&mut self.entries, more as u64);
-        refused
+        is_refused
     }
 
     // Notes in the seat that the run has ended, if it has.
@@ -261,35 +261,37 @@ impl<B: Body, E: EntryLedger, O: Ledger, H: Keeper> Guarded<B, E, O, H> {
         }
     }
 
+    /// Commits the answers of a hand, and fills it again. Returns `None` if it stopped at an answer that the machine did
+    /// not ask for, the first that is left.
     pub(crate) fn exchange(
         &mut self,
         board: &Board,
         hand: &mut Hand<B>,
         seat: &mut Seat<E, O>,
         most: usize,
-    ) -> Result<Next, Stranger<B>>
+    ) -> Option<Next>
         requires board { board.now ≡ E.board }
         requires called { hand.old.called ≡ length hand.old.tasks }
-        ensures machine { IfOk result (λ _. (m : MachineView) × (again : List Input) × (more : List Input) × (hand.new.tasks ≡ again ++ more) × (m.end ≡ None → Gives (family B.Kinds.Kinds) self.old.machine hand.old.tasks hand.new.outcomes again m []) × (m.end ≢ None → (again ≡ []) × GivesBack (family B.Kinds.Kinds) self.old.machine hand.old.tasks hand.new.outcomes m []) × TakesOutAll m more self.new.machine) }
-        ensures committed { OnOk result (WereCommitted (family B.Kinds.Kinds) B.Kinds.admits E.net hand.old.tasks hand.new.outcomes []) }
-        ensures stranger { IfErr result (λ s. WereCommitted (family B.Kinds.Kinds) B.Kinds.admits E.net hand.old.tasks hand.new.outcomes (s.finished ∷ hand.new.tasks) × GivesBack (family B.Kinds.Kinds) self.old.machine hand.old.tasks hand.new.outcomes self.new.machine (s.finished ∷ hand.new.tasks)) }
-        ensures kept { OnErr result ((seat.new.overs ≡ seat.old.overs) × (hand.new.called ≡ length hand.new.tasks)) }
+        ensures machine { IfSome result (λ _. (m : MachineView) × (again : List Input) × (more : List Input) × (hand.new.tasks ≡ again ++ more) × (m.end ≡ None → Gives (family B.Kinds.Kinds) self.old.machine hand.old.tasks hand.new.outcomes again m []) × (m.end ≢ None → (again ≡ []) × GivesBack (family B.Kinds.Kinds) self.old.machine hand.old.tasks hand.new.outcomes m []) × TakesOutAll m more self.new.machine) }
+        ensures committed { IfSome result (λ _. WereCommitted (family B.Kinds.Kinds) B.Kinds.admits E.net hand.old.tasks hand.new.outcomes []) }
+        ensures refused { IfNone result (GivesBack (family B.Kinds.Kinds) self.old.machine hand.old.tasks hand.new.outcomes self.new.machine hand.new.tasks × WereCommitted (family B.Kinds.Kinds) B.Kinds.admits E.net hand.old.tasks hand.new.outcomes hand.new.tasks) }
+        ensures left { IfNone result ((seat.new.overs ≡ seat.old.overs) × (0 < hand.new.called) × (hand.new.called ≡ length hand.new.tasks)) }
         ensures seat { (seat.new.parts ≡ seat.old.parts) × (seat.new.entries ≡ seat.old.entries + sum_by entries_appended hand.new.outcomes) }
-        ensures taken { OnOk result (All (WasTaken (family B.Kinds.Kinds) B.Kinds.admits E.net) hand.new.tasks × (hand.new.called ≡ 0)) }
-        ensures most { OnOk result (length hand.new.tasks ≤ most) }
-        ensures tasks { result ≡ Ok Next.Tasks → (seat.new.overs ≡ seat.old.overs) × (0 < length hand.new.tasks) }
-        ensures nothing { result ≡ Ok Next.Nothing → (seat.new.overs ≡ seat.old.overs) × (hand.new.tasks ≡ []) }
-        ensures found { result ≡ Ok Next.Nothing → 0 < most → FoundNothing (family B.Kinds.Kinds) B.Kinds.admits E.net }
-        ensures over { (e : EndV) → result ≡ Ok (Next.Over e) → (seat.new.overs ≡ 1) × (hand.new.tasks ≡ []) × (self.new.machine.end ≡ Some e) }
-        ensures ended { (e : EndV) → result ≡ Ok (Next.Over e) → HasEnded (family B.Kinds.Kinds) B.Kinds.admits E.net e }
+        ensures taken { IfSome result (λ _. All (WasTaken (family B.Kinds.Kinds) B.Kinds.admits E.net) hand.new.tasks × (hand.new.called ≡ 0)) }
+        ensures most { IfSome result (λ _. length hand.new.tasks ≤ most) }
+        ensures tasks { result ≡ Some Next.Tasks → (seat.new.overs ≡ seat.old.overs) × (0 < length hand.new.tasks) }
+        ensures nothing { result ≡ Some Next.Nothing → (seat.new.overs ≡ seat.old.overs) × (hand.new.tasks ≡ []) }
+        ensures found { result ≡ Some Next.Nothing → 0 < most → FoundNothing (family B.Kinds.Kinds) B.Kinds.admits E.net }
+        ensures over { (e : EndV) → result ≡ Some (Next.Over e) → (seat.new.overs ≡ 1) × (hand.new.tasks ≡ []) × (self.new.machine.end ≡ Some e) }
+        ensures ended { (e : EndV) → result ≡ Some (Next.Over e) → HasEnded (family B.Kinds.Kinds) B.Kinds.admits E.net e }
     {
         let wanted = self.wanted(hand, most);
         // Ready processes have waited, so they come before those that could stay.
         let keep = wanted.min(most).saturating_sub(self.machine.ready());
-        match self.give(board, hand, seat, keep) {
-            Some(finished) => Err(Stranger { finished }),
-            None => Ok(self.deal(hand, seat, most, wanted)),
+        if self.give(board, hand, seat, keep) {
+            return None;
         }
+        Some(self.deal(hand, seat, most, wanted))
     }
 
     /// Asks ready processes in place, publishes and books the new entries. Without an answer, meets the end

@@ -183,14 +183,19 @@ impl<B: Body, E: EntryLedger, O: Ledger, H: Keeper> Monitor<B, E, O, H> {
     {
         hand.see_awake(self.awake.load(Ordering::SeqCst));
         let mut guarded = self.lock(rt);
-        let answer = guarded.exchange(&self.board, hand, seat, most);
+        let next = guarded.exchange(&self.board, hand, seat, most);
         let wakes = guarded.wakes();
         drop(guarded);
         self.wake(wakes);
-        if let Ok(Next::Over(_)) = answer {
+        if let Some(Next::Over(_)) = next {
             self.rouse(rt);
         }
-        answer
+        match next {
+            Some(next) => Ok(next),
+            None => Err(Stranger {
+                finished: hand.leave(),
+            }),
+        }
     }
 
     /// Asks ready processes in place, and takes each answer like `commit`, until `most` answers were taken,

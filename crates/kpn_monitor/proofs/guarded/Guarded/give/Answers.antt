@@ -10,27 +10,27 @@ use Rattle.kpn_monitor.proofs.guarded.Guarded.give.Goals as goal
 
 pub publish-requires-clause-goes_on : goal.publish-requires-clause-goes_on
 publish-requires-clause-goes_on g c κs within =
-    let gone = gave (family_of g.B.Kinds.Kinds.start g.B.Kinds.Kinds.answer_of) _ _ _ _ _ _ c.give-refused.ensures.goes_on c.give-refused.ensures.ended c.give-refused.ensures.refused in
-    subst (λ l. IsPrefix l c.give-refused.new.machine.history) (sym c.self.invariant.1.entries) gone.history
+    let gone = gave (family_of g.B.Kinds.Kinds.start g.B.Kinds.Kinds.answer_of) _ _ _ _ _ _ c.give-is_refused.ensures.goes_on c.give-is_refused.ensures.ended (λ is. (c.give-is_refused.ensures.refused is).0) in
+    subst (λ l. IsPrefix l c.give-is_refused.new.machine.history) (sym c.self.invariant.1.entries) gone.history
 
 pub publish-requires-clause-ended : goal.publish-requires-clause-ended
 publish-requires-clause-ended g c κs within = λ ended.
-    let gone = gave (family_of g.B.Kinds.Kinds.start g.B.Kinds.Kinds.answer_of) _ _ _ _ _ _ c.give-refused.ensures.goes_on c.give-refused.ensures.ended c.give-refused.ensures.refused in
+    let gone = gave (family_of g.B.Kinds.Kinds.start g.B.Kinds.Kinds.answer_of) _ _ _ _ _ _ c.give-is_refused.ensures.goes_on c.give-is_refused.ensures.ended (λ is. (c.give-is_refused.ensures.refused is).0) in
     let shown = c.self.invariant.1 in
     let same = gone.ended (λ none. ended (shown.phase ∙ ap phase_of none)) in
     (same.0 ∙ sym shown.entries, ap phase_of same.1 ∙ sym shown.phase)
 
 pub overflow_sub-more : goal.overflow_sub-more
 overflow_sub-more g c =
-    let gone = gave (family_of g.B.Kinds.Kinds.start g.B.Kinds.Kinds.answer_of) _ _ _ _ _ _ c.give-refused.ensures.goes_on c.give-refused.ensures.ended c.give-refused.ensures.refused in
+    let gone = gave (family_of g.B.Kinds.Kinds.start g.B.Kinds.Kinds.answer_of) _ _ _ _ _ _ c.give-is_refused.ensures.goes_on c.give-is_refused.ensures.ended (λ is. (c.give-is_refused.ensures.refused is).0) in
     omega (arith, gone.count, c.entries-before.ensures, c.entries.ensures)
 
 pub invariant_of-self : goal.invariant_of-self
 invariant_of-self g c =
-    let gone = gave (family_of g.B.Kinds.Kinds.start g.B.Kinds.Kinds.answer_of) _ _ _ _ _ _ c.give-refused.ensures.goes_on c.give-refused.ensures.ended c.give-refused.ensures.refused in
+    let gone = gave (family_of g.B.Kinds.Kinds.start g.B.Kinds.Kinds.answer_of) _ _ _ _ _ _ c.give-is_refused.ensures.goes_on c.give-is_refused.ensures.ended (λ is. (c.give-is_refused.ensures.refused is).0) in
     let kept = c.self.invariant.0 in (
       record {
-        network = c.give-refused.ensures.network ∙ kept.network;
+        network = c.give-is_refused.ensures.network ∙ kept.network;
         faithful = c.publish.ensures.faithful;
         ended = λ met. subst IsSome (sym (gone.ended (some_end c.self.inside.machine.end (kept.ended met))).1) (kept.ended met);
         counted = omega (arith, c.add_entries.ensures.book, kept.counted, gone.count, c.entries-before.ensures, c.entries.ensures);
@@ -47,5 +47,5 @@ invariant_of-self g c =
 
 pub returns-clause-seat : goal.returns-clause-seat
 returns-clause-seat g c =
-    let gone = gave (family_of g.B.Kinds.Kinds.start g.B.Kinds.Kinds.answer_of) _ _ _ _ _ _ c.give-refused.ensures.goes_on c.give-refused.ensures.ended c.give-refused.ensures.refused in
+    let gone = gave (family_of g.B.Kinds.Kinds.start g.B.Kinds.Kinds.answer_of) _ _ _ _ _ _ c.give-is_refused.ensures.goes_on c.give-is_refused.ensures.ended (λ is. (c.give-is_refused.ensures.refused is).0) in
     c.add_entries.ensures.seat ∙ ap (λ k. record c.args.seat.now { entries = c.args.seat.now.entries + k }) (omega (arith, gone.count, c.entries-before.ensures, c.entries.ensures))
