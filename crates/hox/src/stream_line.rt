@@ -72,11 +72,13 @@ impl<'a, R: Eprint> StreamLine<'a, R> {
         }
     }
 
-    /// Goes back to the first row of the table, if one stands there.
+    /// Goes back to the first row of the table, if one stands there on a terminal; else clears the line of progress.
     fn go_back(&self) {
         let rows = self.rows.swap(0, Ordering::SeqCst);
         if self.is_terminal && rows > 0 {
             let _ = eprint!(self.rt; "\r\x1b[{rows}A\x1b[J");
+        } else {
+            self.end();
         }
     }
 }

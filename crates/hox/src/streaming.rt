@@ -137,14 +137,14 @@ fn say_name_fault<R: Eprint>(
     }
 }
 
-/// Says that a process writes itself to the channel that should be fed, and returns the exit status. A copy has the
-/// name of the channel to it.
+/// Says that a process writes itself to the channel that should be fed, and returns the exit status. A copy at the
+/// first channel of several has the name of a channel.
 fn say_writer<R: Eprint>(rt: &R, channels: &[Text], name: &str, process: &str) -> u8 {
     let is_copy = process.starts_with("copy_")
         && channels.iter().any(|channel| channel.as_str() == process);
     let _ = eprint!(rt; "hox: --in {name}: process {process} writes to that channel itself; ");
     let _ = if is_copy {
-        eprintln!(rt; "feed channel {process}, for all channels of its output")
+        eprintln!(rt; "feed the first channel that leaves the input, for all of them")
     } else {
         eprintln!(rt; "make its kind input or input_flags")
     };

@@ -40,7 +40,7 @@ The formats, and their keys:
   s16le           channel=N, channels=N, clip; also s8, u8, and s16, s24, s32, s64 and u64, with le or be
 A file whose name ends in .wav is WAV by default. A word that doesn't fit a sample is an error; with clip the nearest
 sample is written. A file that is given for several channels, as in --out left,right=out.wav, has them side by side,
-as columns or as channels of samples.
+as columns or as channels of samples. Options that name a CHANNEL may be given several times.
 
 The description is TOML. Its keys, with their defaults in brackets:
   version         1 or 2

@@ -2,10 +2,12 @@
 ghost use Rattle.std.specs.Prelude.{◌≡◌, ◌<◌, ◌≤◌, ◌^◌, ◌≢◌, pos, unsigned_abs};
 ghost use Rattle.kpn_signals.specs.Shapes.{step_answer, join_answer};
 ghost use Rattle.kpn_signals.specs.Words.{signed};
-ghost use Rattle.kpn_signals.specs.Arithmetic.{sub_join, mul_join, right_shift, scale_step, shift_step, left_step, min_join, max_join, abs_step, offset_step, amplified, gain_step, quotient, div_join, mod_join};
+ghost use Rattle.kpn_signals.specs.Arithmetic.{sub_join, mul_join, scale_step, shift_step, left_step, min_join, max_join, abs_step, offset_step, amplified, gain_step, div_join, mod_join};
 
 use crate::turns::{joined, latest, reads, word, writes_word};
 use crate::wide::{floor_div, signed, wrapped};
+use crate::words;
+use crate::words::{greatest, least, quotient, right_shift};
 use kpn_model::{Answer, Local, Token};
 
 /// Reads two words, and writes the first minus the second modulo 2^64, forever.
@@ -55,20 +57,12 @@ pub(crate) fn left(bits: u64, local: Local, last: Option<Token>) -> Answer
     }
 }
 
-fn right_shift(bits: u64, word: u64) -> u64
-    requires { bits < 64 }
-    ensures { result ≡ right_shift bits word }
-{
-    (word.cast_signed() >> bits).cast_unsigned()
-}
-
 /// Reads two words, and writes the lesser one, signed, forever.
 pub(crate) fn min(local: Local, last: Option<Token>) -> Answer
     ensures { result ≡ join_answer min_join local last }
 {
     let [_, first, kept, _] = local;
-    let second = word(latest(last)).cast_signed();
-    let least = first.cast_signed().min(second).cast_unsigned();
+    let least = least(first, word(latest(last)));
     joined(local, last, kept, Token::Word(least))
 }
 
@@ -77,8 +71,7 @@ pub(crate) fn max(local: Local, last: Option<Token>) -> Answer
     ensures { result ≡ join_answer max_join local last }
 {
     let [_, first, kept, _] = local;
-    let second = word(latest(last)).cast_signed();
-    let greatest = first.cast_signed().max(second).cast_unsigned();
+    let greatest = greatest(first, word(latest(last)));
     joined(local, last, kept, Token::Word(greatest))
 }
 
@@ -138,17 +131,6 @@ pub(crate) fn remainder(local: Local, last: Option<Token>) -> Answer
     ensures { result ≡ join_answer mod_join local last }
 {
     let [_, first, kept, _] = local;
-    let divisor = word(latest(last));
-    let whole = divisor.wrapping_mul(quotient(first, divisor));
-    joined(local, last, kept, Token::Word(first.wrapping_sub(whole)))
-}
-
-fn quotient(word: u64, divisor: u64) -> u64
-    ensures { result ≡ quotient word divisor }
-{
-    if divisor == 0 {
-        0
-    } else {
-        wrapped(floor_div(signed(word), signed(divisor)))
-    }
+    let rest = words::remainder(first, word(latest(last)));
+    joined(local, last, kept, Token::Word(rest))
 }

@@ -21,6 +21,7 @@ pub mod signals;
 mod signs;
 pub mod turns;
 mod wide;
+pub mod words;
 
 pub use answers::answer;
 pub use help::{HELP, Help, SIGNED};

@@ -7,6 +7,7 @@ pub mod Merging
 pub mod Union
 pub mod Flags
 pub mod Filters
+pub mod Rounds
 pub mod Shapes
 pub mod SignalKinds
 pub mod Families

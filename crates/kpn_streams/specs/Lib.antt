@@ -3,6 +3,7 @@ pub mod Functions
 pub mod Joined
 pub mod Kinds
 pub mod Filters
+pub mod Rounds
 pub mod Signals
 pub mod Families
 pub mod Solving

@@ -1,12 +1,15 @@
-//! The functions of the standard kinds and of filters, and laws of every family.
-ghost use Rattle.std.specs.Prelude.{ℕ, List};
+//! The functions of the standard kinds, of filters and of rounds, and laws of every family.
+ghost use Rattle.std.specs.Prelude.{ℕ, List, Option};
 ghost use Rattle.kpn_model.specs.declared.kinds.Card.{Card};
+ghost use Rattle.kpn_model.specs.declared.kinds.Signature.{Signature};
 ghost use Rattle.kpn_model.specs.Network.{Family};
 ghost use Rattle.kpn_streams.specs.Kinds.{CountWrites, SinkWrites, TakeWrites, CopyWrites, PrefixWrites, AddWrites, ScaleWrites, WeaveWrites, MergeWrites, DividesWrites, SwitchWrites, SelectWrites, WeaveTakesTurns, MergeIsUnion};
 ghost use Rattle.kpn_streams.specs.Filters.{FiltersScan};
+ghost use Rattle.kpn_streams.specs.Rounds.{RoundsScan};
 ghost use Rattle.kpn_streams.specs.Families.{AreFunctions, WriteAsTheirOwn};
 
 use kpn_compute::Filters;
+use kpn_rounds::Rounds;
 
 /// Ghost lemma: what each standard kind writes, as a function of what it is fed with, for all arguments and
 /// words.
@@ -49,6 +52,18 @@ pub fn filter_functions()
 /// Ghost lemma: the law of [`filter_functions`] for the filters of a type.
 pub fn filter_function_of<F: Filters>()
     ensures scans { FiltersScan F.start F.step }
+{}
+
+/// Ghost lemma: every process that goes in rounds, and has an input, writes what its steps make of the streams side by
+/// side: of the first tokens with what is kept at the start, of all later ones with what the step before kept. There are
+/// as many rounds as the shortest stream has tokens.
+pub fn round_functions()
+    ensures scans { (ports : Card → Option Signature) (start : Card → List ℕ) (step : Card → List ℕ → List ℕ → List ℕ × List ℕ) → RoundsScan ports start step }
+{}
+
+/// Ghost lemma: the law of [`round_functions`] for the rounds of a type.
+pub fn round_function_of<R: Rounds>()
+    ensures scans { RoundsScan R.ports R.start R.step }
 {}
 
 /// Ghost lemmas for every family. `functions`: what a process writes is a function of what it is fed with.

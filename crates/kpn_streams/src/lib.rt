@@ -10,5 +10,8 @@ mod functions;
 mod signals;
 
 pub use equations::{solving, solving_of};
-pub use functions::{family_functions, filter_function_of, filter_functions, standard_functions};
+pub use functions::{
+    family_functions, filter_function_of, filter_functions, round_function_of, round_functions,
+    standard_functions,
+};
 pub use signals::signal_functions;

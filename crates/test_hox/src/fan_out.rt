@@ -2,7 +2,10 @@
 use crate::checks::same;
 use hox_expanded::description_of;
 use hox_network::{AllKinds, load_by_ports, sketch_by_ports};
-use kpn_net::{ChannelSketch, Net, Sketch, Sort, TokenSketch};
+use kpn_message::message_of_delayed;
+use kpn_net::{
+    ChannelSketch, Delay, Net, NetFault, Sketch, Sort, TokenSketch, read_delayed, read_sketch,
+};
 use std::alloc::AllocError;
 use std::fmt::Write;
 use std::process::Abort;
@@ -188,4 +191,34 @@ fn start_tokens_stay(rt: HostRuntime) {
     let channel = channels.get(1).expect(&rt, "no channel");
     let due = [TokenSketch::Integer(7), TokenSketch::Integer(8)];
     same(&rt, "tokens", channel.tokens.as_slice(), due.as_slice());
+}
+
+/// A delay is no key of `kpn`.
+#[test]
+fn delays_are_read(rt: HostRuntime) {
+    let Ok(described) = read_delayed(rt.alloc(), DELAYED.as_bytes()) else {
+        panic!(rt; "refused");
+    };
+    let due = [Delay { tokens: 2 }, Delay { tokens: 1 }];
+    same(&rt, "delays", described.delays.as_slice(), due.as_slice());
+    let channels = described.sketch.channels.as_slice();
+    let first = channels.first().expect(&rt, "no channel");
+    let tokens = [TokenSketch::Integer(7)];
+    same(&rt, "tokens", first.tokens.as_slice(), tokens.as_slice());
+    let plain = read_sketch(rt.alloc(), DELAYED.as_bytes()).err();
+    same(&rt, "fault", plain, Some(NetFault::Keys));
+}
+
+const NO_NUMBER: &str = r#"version = 2
+process = [{ name = "src", kind = "input" }, { name = "a", kind = "drain" }]
+channel = [{ name = "x", from = "src", to = "a", delay = true }]
+"#;
+
+#[test]
+fn a_delay_that_is_no_integer_is_told(rt: HostRuntime) {
+    let told = message_of_delayed(rt.alloc(), NO_NUMBER.as_bytes()).expect(&rt, "no message");
+    let due = "channel[0]: key \"delay\" must be an integer";
+    same(&rt, "message", told.as_str(), due);
+    let none = message_of_delayed(rt.alloc(), DELAYED.as_bytes()).is_none();
+    same(&rt, "no message", none, true);
 }

@@ -1,7 +1,10 @@
 -- For each changed function a few tokens for which a process of its kind writes something else; and two streams for each law without
 -- its premise.
-use Rattle.std.proofs.Common.{◌≡◌, ℕ, true, false, List, [], ◌∷◌, Contains, inr, refl, arith}
+use Rattle.std.proofs.Common.{◌≡◌, ℕ, true, false, List, [], ◌∷◌, Some, Contains, inr, refl, arith}
+use Rattle.kpn_model.specs.declared.token.Sort.TheVariants.{Words, Flags}
 use Rattle.kpn_model.specs.declared.kinds.Card.{Card}
+use Rattle.kpn_model.specs.declared.kinds.Signature.{Signature}
+use Rattle.kpn_standard.specs.Table.{word_and_flag}
 use Rattle.kpn_streams.specs.Functions.{words, flags}
 use Rattle.kpn_streams.proofs.Families.{each_is_a_function}
 use Rattle.kpn_streams.proofs.Ends.{count_writes}
@@ -11,8 +14,9 @@ use Rattle.kpn_streams.proofs.Weaving.{weave_writes}
 use Rattle.kpn_streams.proofs.Merging.{merge_writes}
 use Rattle.kpn_streams.proofs.Flags.{divides_writes, switch_writes, select_writes}
 use Rattle.kpn_streams.proofs.Filters.{filters_scan}
-use Rattle.test_laws.specs.WorkedFunctions.{at_none, total}
-use Rattle.test_laws.specs.ChangedFunctions.{CountsUpTo, TakesOneMore, CopiesInTurn, ForgetsItsWord, SumsDoNotWrap, StopsTakingTurns, MergeKeepsBoth, MergeDrains, DividesOtherWay, SwitchesOtherWay, SelectReadsBoth, FiltersKeepNothing, TurnsOfNone, MergeHasAll}
+use Rattle.kpn_streams.proofs.Rounds.{rounds_scan}
+use Rattle.test_laws.specs.WorkedFunctions.{at_none, total, tally_ports, tally}
+use Rattle.test_laws.specs.ChangedFunctions.{CountsUpTo, TakesOneMore, CopiesInTurn, ForgetsItsWord, SumsDoNotWrap, StopsTakingTurns, MergeKeepsBoth, MergeDrains, DividesOtherWay, SwitchesOtherWay, SelectReadsBoth, FiltersKeepNothing, RoundsKeepNothing, TurnsOfNone, MergeHasAll}
 
 pub count_fails : CountsUpTo → ⊥
 count_fails h =
@@ -70,6 +74,16 @@ filter_fails h =
     let e : words (1 ∷ 2 ∷ []) ∷ [] ≡ words (1 ∷ 3 ∷ []) ∷ [] =
     each_is_a_function _ _ _ _ _ refl (h at_none total card (1 ∷ 2 ∷ [])) (filters_scan at_none total card (1 ∷ 2 ∷ [])) in
     let n : ◌≡◌ {A = ℕ} 2 3 = cc in
+    absurd (omega arith)
+
+pub round_fails : RoundsKeepNothing → ⊥
+round_fails h =
+    let card : Card = record { kind = 0; args = [] } in
+    let s : Signature = record { ins = Some Words ∷ Some Flags ∷ Some Words ∷ []; outs = word_and_flag } in
+    let ins = words (1 ∷ 2 ∷ []) ∷ flags (true ∷ true ∷ []) ∷ words (0 ∷ 0 ∷ []) ∷ [] in
+    let e : words (2 ∷ 3 ∷ []) ∷ flags (true ∷ true ∷ []) ∷ [] ≡ words (2 ∷ 5 ∷ []) ∷ flags (true ∷ true ∷ []) ∷ [] =
+    each_is_a_function _ _ _ _ _ refl (h tally_ports at_none tally card s ins refl (omega arith) refl) (rounds_scan tally_ports at_none tally card s ins refl (omega arith) refl) in
+    let n : ◌≡◌ {A = ℕ} 3 5 = cc in
     absurd (omega arith)
 
 pub no_turn_fails : TurnsOfNone → ⊥

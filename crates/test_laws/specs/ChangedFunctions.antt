@@ -1,14 +1,19 @@
 -- False claims about what the standard kinds write, and laws of weave and merge without a premise that they
 -- need.
-use Rattle.std.specs.Prelude.{◌⊎◌, ℕ, ◌+◌, ◌-◌, ◌%◌, ◌==◌, nat_lt, if◌then◌else◌, Bool, not, List, [], ◌∷◌, ◌++◌, map, zip, take, drop, Contains}
+use Rattle.std.specs.Prelude.{◌≡◌, ◌≤◌, ◌⊎◌, ℕ, ◌+◌, ◌-◌, ◌%◌, ◌==◌, nat_lt, if◌then◌else◌, Bool, not, List, [], ◌∷◌, ◌++◌, map, zip, take, drop, length, Contains, Option, Some}
 use Rattle.std.specs.List.{range_with_len}
 use Rattle.std.specs.List.Sorted.{IsStrictlyIncreasing}
+use Rattle.kpn_model.specs.declared.token.Token.{Token}
 use Rattle.kpn_model.specs.declared.kinds.Card.{Card}
+use Rattle.kpn_model.specs.declared.kinds.Signature.{Signature}
 use Rattle.kpn_standard.specs.declared.kind.Kind.TheVariants.{Count, Take, Copy, Prefix, Add, Weave, Merge, Divides, Switch, Select}
 use Rattle.kpn_compute.specs.Filters.{filter_family}
+use Rattle.kpn_rounds.specs.Steps.{count}
+use Rattle.kpn_rounds.specs.Rounds.{made_by, rounds_family}
 use Rattle.kpn_streams.specs.Fed.{Writes}
 use Rattle.kpn_streams.specs.Functions.{words, flags, woven, merged, flagged}
 use Rattle.kpn_streams.specs.Joined.{TakesTurns}
+use Rattle.kpn_streams.specs.Rounds.{side_by_side, columns}
 use Rattle.test_laws.specs.WorkedFunctions.{Gives}
 
 -- count: the numbers up to n, not n numbers
@@ -82,6 +87,13 @@ abbrev pub FiltersKeepNothing : Type 0
 FiltersKeepNothing =
     (start : Card → List ℕ) (step : Card → List ℕ → ℕ → List ℕ × ℕ) (card : Card) (ws : List ℕ)
     → Writes (filter_family start step) card (words ws ∷ []) (words (map (λ w. (step card (start card) w).1) ws) ∷ [])
+
+-- rounds: the same
+abbrev pub RoundsKeepNothing : Type 0
+RoundsKeepNothing =
+    (ports : Card → Option Signature) (start : Card → List ℕ) (step : Card → List ℕ → List ℕ → List ℕ × List ℕ) (card : Card) (s : Signature) (ins : List (List Token))
+    → ports card ≡ Some s → 1 ≤ length ins → length ins ≡ count s.ins
+    → Writes (rounds_family ports start step) card ins (columns s (map (λ inputs. (made_by s (step card) (start card) inputs).1) (side_by_side ins)))
 
 abbrev pub TurnsOfNone : Type 0
 TurnsOfNone = (a b : ℕ) → TakesTurns a b (woven a b)

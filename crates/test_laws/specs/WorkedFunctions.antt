@@ -1,13 +1,17 @@
--- What processes of the standard kinds and a filter write, worked out by hand.
-use Rattle.std.specs.Prelude.{ℕ, ◌+◌, ◌%◌, ◌^◌, true, false, List, [], ◌∷◌}
+-- What processes of the standard kinds, of a filter and of rounds write, worked out by hand.
+use Rattle.std.specs.Prelude.{ℕ, ◌+◌, ◌%◌, ◌^◌, true, false, List, [], ◌∷◌, Option, Some}
 use Rattle.kpn_model.specs.declared.token.Token.{Token}
+use Rattle.kpn_model.specs.declared.token.Sort.TheVariants.{Words, Flags}
 use Rattle.kpn_model.specs.declared.kinds.Card.{Card}
+use Rattle.kpn_model.specs.declared.kinds.Signature.{Signature}
 use Rattle.kpn_standard.specs.declared.kind.Kind.{Kind}
 use Rattle.kpn_standard.specs.declared.kind.Kind.TheVariants.{Count, Sink, Take, Copy, Prefix, Add, Scale, Weave, Merge, Divides, Switch, Select}
 use Rattle.kpn_standard.specs.Locals.{at}
+use Rattle.kpn_standard.specs.Table.{word_and_flag}
 use Rattle.kpn_standard.specs.Signatures.{card_of_kind}
 use Rattle.kpn_standard.specs.Standard.{standard}
 use Rattle.kpn_compute.specs.Filters.{filter_family}
+use Rattle.kpn_rounds.specs.Rounds.{rounds_family}
 use Rattle.kpn_streams.specs.Fed.{Writes}
 use Rattle.kpn_streams.specs.Functions.{words, flags, woven}
 use Rattle.kpn_streams.specs.Joined.{TakesTurns, IsRisingUnion}
@@ -72,6 +76,22 @@ total card kept w = ((at kept 0 + w) % 2 ^ 64 ∷ 0 ∷ 0 ∷ 0 ∷ [], (at kept
 abbrev pub TotalsSoFar : Type 0
 TotalsSoFar =
     (card : Card) → Writes (filter_family at_none total) card (words (1 ∷ 2 ∷ 18446744073709551615 ∷ 4 ∷ []) ∷ []) (words (1 ∷ 3 ∷ 2 ∷ 6 ∷ []) ∷ [])
+
+-- rounds of a word, a flag and a word, which keep and write the total so far of all three, and write the flag. The second
+-- of the kept words is lost
+abbrev pub tally_ports : Card → Option Signature
+tally_ports card = Some (record { ins = Some Words ∷ Some Flags ∷ Some Words ∷ []; outs = word_and_flag })
+
+abbrev pub tally : Card → List ℕ → List ℕ → List ℕ × List ℕ
+tally card kept inputs =
+    let sum = (at kept 0 + at kept 1 + at inputs 0 + at inputs 1 + at inputs 2) % 2 ^ 64 in (sum ∷ 9 ∷ 0 ∷ 0 ∷ [], sum ∷ at inputs 1 ∷ 0 ∷ [])
+
+-- for the third round the last input has no word
+abbrev pub TalliesTwoRounds : Type 0
+TalliesTwoRounds =
+    (card : Card)
+    → Writes (rounds_family tally_ports at_none tally) card (words (1 ∷ 2 ∷ 3 ∷ []) ∷ flags (true ∷ false ∷ true ∷ []) ∷ words (10 ∷ 20 ∷ []) ∷ [])
+    (words (12 ∷ 34 ∷ []) ∷ flags (true ∷ false ∷ []) ∷ [])
 
 -- two words and one are turns; the numbers that merge writes above are the rising union
 abbrev pub TwoAndOneAreTurns : Type 0

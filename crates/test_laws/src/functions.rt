@@ -1,11 +1,12 @@
-//! What the standard kinds and a filter write, worked out by hand, and what they don't.
+//! What the standard kinds, a filter and rounds write, worked out by hand, and what they don't.
 ghost use Rattle.std.specs.Prelude.{None, true};
-ghost use Rattle.test_laws.specs.WorkedFunctions.{at_none, total, CountsFourFromThree, SinksAll, TakesTwo, CopiesToBoth, BeginsWithNine, AddsAndWraps, ScalesAndWraps, WeavesTwoAndOne, MergesUpToFour, ThreeDivides, SwitchesByFlags, SelectsByFlags, TotalsSoFar, TwoAndOneAreTurns, FourIsUnion};
-ghost use Rattle.test_laws.specs.ChangedFunctions.{CountsUpTo, TakesOneMore, CopiesInTurn, ForgetsItsWord, SumsDoNotWrap, StopsTakingTurns, MergeKeepsBoth, MergeDrains, DividesOtherWay, SwitchesOtherWay, SelectReadsBoth, FiltersKeepNothing, TurnsOfNone, MergeHasAll};
+ghost use Rattle.test_laws.specs.WorkedFunctions.{at_none, total, tally_ports, tally, CountsFourFromThree, SinksAll, TakesTwo, CopiesToBoth, BeginsWithNine, AddsAndWraps, ScalesAndWraps, WeavesTwoAndOne, MergesUpToFour, ThreeDivides, SwitchesByFlags, SelectsByFlags, TotalsSoFar, TalliesTwoRounds, TwoAndOneAreTurns, FourIsUnion};
+ghost use Rattle.test_laws.specs.ChangedFunctions.{CountsUpTo, TakesOneMore, CopiesInTurn, ForgetsItsWord, SumsDoNotWrap, StopsTakingTurns, MergeKeepsBoth, MergeDrains, DividesOtherWay, SwitchesOtherWay, SelectReadsBoth, FiltersKeepNothing, RoundsKeepNothing, TurnsOfNone, MergeHasAll};
 
 use kpn_compute::Filters;
-use kpn_model::{Card, Local};
-use kpn_streams::{filter_function_of, standard_functions};
+use kpn_model::{Card, Local, Signature, Sort};
+use kpn_rounds::Rounds;
+use kpn_streams::{filter_function_of, round_function_of, standard_functions};
 
 /// Filters that keep and write the total so far, modulo 2^64. Descriptions have no name for them.
 struct Totals;
@@ -39,9 +40,50 @@ impl Filters for Totals {
     fn lawful() {}
 }
 
-/// Ghost lemma: what a process of each standard kind writes, and a filter that keeps a total, fed with given
-/// words and flags. `turns` and `union` meet the premises of two laws. The proof uses only
-/// `standard_functions` and `filter_function_of`.
+/// Rounds of three inputs, which keep and write the total so far of all, modulo 2^64, and write the second, a flag.
+struct Tallies;
+
+impl Rounds for Tallies {
+    ghost named = { λ name. None };
+
+    ghost ports = { tally_ports };
+
+    ghost start = { at_none };
+
+    ghost step = { tally };
+
+    fn named(_name: &str) -> Option<(u16, usize)> {
+        None
+    }
+
+    fn ports(_card: &Card) -> Option<Signature> {
+        Some(Signature {
+            ins: [Some(Sort::Words), Some(Sort::Flags), Some(Sort::Words)],
+            outs: [Some(Sort::Words), Some(Sort::Flags), None],
+        })
+    }
+
+    fn start(_card: &Card) -> Local {
+        [0; 4]
+    }
+
+    fn step(_card: Card, kept: Local, inputs: [u64; 3]) -> (Local, [u64; 3]) {
+        let [total, lost, _, _] = kept;
+        let [first, flag, last] = inputs;
+        let sum = total
+            .wrapping_add(lost)
+            .wrapping_add(first)
+            .wrapping_add(flag)
+            .wrapping_add(last);
+        ([sum, 9, 0, 0], [sum, flag, 0])
+    }
+
+    fn lawful() {}
+}
+
+/// Ghost lemma: what a process of each standard kind writes, a filter that keeps a total, and rounds of three inputs
+/// that do, fed with given words and flags. `turns` and `union` meet the premises of two laws. The proof uses only
+/// `standard_functions`, `filter_function_of` and `round_function_of`.
 pub fn worked_functions()
     ensures count { CountsFourFromThree }
     ensures sink { SinksAll }
@@ -56,11 +98,13 @@ pub fn worked_functions()
     ensures switch { SwitchesByFlags }
     ensures select { SelectsByFlags }
     ensures filter { TotalsSoFar }
+    ensures round { TalliesTwoRounds }
     ensures turns { TwoAndOneAreTurns }
     ensures union { FourIsUnion }
 {
     standard_functions();
     filter_function_of::<Totals>();
+    round_function_of::<Tallies>();
 }
 
 /// Ghost lemma: the standard kinds don't write by slightly changed functions.
@@ -69,7 +113,8 @@ pub fn worked_functions()
 /// word. `add`: sums of more than 64 bits. `weave`: the second stream for ever, after one turn of the first.
 /// `keeps_both`: merge writes both of two equal heads. `drains`: it writes the rest of one stream where the
 /// other has ended. `divides`: whether the word divides m. `switch`: to output 0 for a true flag. `select`: a
-/// word of each stream for each flag. `filter`: each word with the local state of the start.
+/// word of each stream for each flag. `filter`: each word with the local state of the start. `round`: each round with
+/// what is kept at the start.
 ///
 /// Two laws need their premises. `no_turn`: weave doesn't take turns of no word. `has_all`: the merge of two
 /// rising streams may lack what follows where one has ended.
@@ -86,6 +131,7 @@ pub fn changed_functions()
     ensures switch { SwitchesOtherWay → ⊥ }
     ensures select { SelectReadsBoth → ⊥ }
     ensures filter { FiltersKeepNothing → ⊥ }
+    ensures round { RoundsKeepNothing → ⊥ }
     ensures no_turn { TurnsOfNone → ⊥ }
     ensures has_all { MergeHasAll → ⊥ }
 {}

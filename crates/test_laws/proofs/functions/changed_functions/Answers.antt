@@ -1,5 +1,5 @@
 -- The changed functions fail.
-use Rattle.test_laws.proofs.ChangedFunctions.{count_fails, take_fails, copy_fails, prefix_fails, add_fails, weave_fails, keeps_both_fails, drains_fails, divides_fails, switch_fails, select_fails, filter_fails, no_turn_fails, has_all_fails}
+use Rattle.test_laws.proofs.ChangedFunctions.{count_fails, take_fails, copy_fails, prefix_fails, add_fails, weave_fails, keeps_both_fails, drains_fails, divides_fails, switch_fails, select_fails, filter_fails, round_fails, no_turn_fails, has_all_fails}
 use Rattle.test_laws.proofs.functions.changed_functions.Goals as goal
 
 pub returns-clause-count : goal.returns-clause-count
@@ -37,6 +37,9 @@ returns-clause-select c = select_fails
 
 pub returns-clause-filter : goal.returns-clause-filter
 returns-clause-filter c = filter_fails
+
+pub returns-clause-round : goal.returns-clause-round
+returns-clause-round c = round_fails
 
 pub returns-clause-no_turn : goal.returns-clause-no_turn
 returns-clause-no_turn c = no_turn_fails

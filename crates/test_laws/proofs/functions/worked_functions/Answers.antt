@@ -1,7 +1,9 @@
 -- What is worked out by hand is what the laws give.
-use Rattle.std.proofs.Common.{zero, suc, true, false, [], ◌∷◌, arith}
+use Rattle.std.proofs.Common.{zero, suc, true, false, [], ◌∷◌, Some, refl, arith}
 use Rattle.std.specs.List.Sorted.{IsStrictlyIncreasing}
-use Rattle.kpn_streams.specs.Functions.{words}
+use Rattle.kpn_model.specs.declared.token.Sort.TheVariants.{Words, Flags}
+use Rattle.kpn_standard.specs.Table.{word_and_flag}
+use Rattle.kpn_streams.specs.Functions.{words, flags}
 use Rattle.test_laws.proofs.functions.worked_functions.Goals as goal
 
 pub returns-clause-count : goal.returns-clause-count
@@ -42,6 +44,11 @@ returns-clause-select c = c.standard_functions.ensures.select (0 ∷ 0 ∷ 0 ∷
 
 pub returns-clause-filter : goal.returns-clause-filter
 returns-clause-filter c card = c.filter_function_of.ensures.scans card (1 ∷ 2 ∷ 18446744073709551615 ∷ 4 ∷ [])
+
+pub returns-clause-round : goal.returns-clause-round
+returns-clause-round c card =
+    c.round_function_of.ensures.scans card (record { ins = Some Words ∷ Some Flags ∷ Some Words ∷ []; outs = word_and_flag })
+    (words (1 ∷ 2 ∷ 3 ∷ []) ∷ flags (true ∷ false ∷ true ∷ []) ∷ words (10 ∷ 20 ∷ []) ∷ []) refl (omega arith) refl
 
 pub returns-clause-turns : goal.returns-clause-turns
 returns-clause-turns c = c.standard_functions.ensures.turns 2 1 (omega arith) (omega arith)

@@ -1,0 +1,38 @@
+-- Lines that were read.
+use Rattle.std.specs.Prelude.{◌≡◌, ℕ, ◌<◌, false, true, List, [], ◌++◌, map, get_or}
+use Rattle.kpn_formula.specs.declared.instruction.Instruction.{Instruction}
+use Rattle.kpn_formula.specs.Programs.{run}
+use Rattle.hox_formula.specs.declared.symbol.Symbol.{Symbol}
+use Rattle.hox_formula.specs.declared.head.Head.{Head}
+use Rattle.hox_formula.specs.declared.lines.Assignment.{Assignment}
+use Rattle.hox_formula.specs.declared.lines.Lines.{Lines}
+use Rattle.hox_formula.specs.Grammar.{Naming}
+use Rattle.hox_formula.specs.Fragments.{working, Means}
+use Rattle.hox_formula.specs.Formulas.{Line, SaysHead, SaysLine, SaysLines, after, head_of, uses_in, gives_flags}
+
+-- the symbols before those that are left say to what a line assigns
+pub record HeadRead (symbols left : List Symbol) (head : Head) : Type 0 where
+  pub taken : List Symbol
+  pub split : symbols ≡ taken ++ left
+  pub says : SaysHead taken head
+
+pub record LineRead (names : Naming) (symbols left : List Symbol) (a : Assignment) : Type 0 where
+  pub taken : List Symbol
+  pub line : Line
+  pub split : symbols ≡ taken ++ left
+  pub says : SaysLine names taken line
+  pub head : a.head ≡ line.head
+  pub place : a.place ≡ line.place
+  pub means : Means a.fragment line.expression
+
+-- the code does what the lines say
+abbrev pub Performs : List Instruction → List Line → Type 0
+Performs code lines = (rest : List Instruction) (vs : List ℕ) → run (code ++ rest) (working vs []) ≡ run rest (working (after lines vs) [])
+
+pub record LinesRead (names : Naming) (symbols : List Symbol) (r : Lines) : Type 0 where
+  pub lines : List Line
+  pub says : SaysLines names symbols lines
+  pub performs : Performs r.code.items lines
+  pub heads : r.heads.items ≡ map head_of lines
+  pub words : (k : ℕ) → k < 6 → get_or r.words k false ≡ uses_in k lines
+  pub flags : (k : ℕ) → k < 3 → get_or r.flags k true ≡ gives_flags k lines

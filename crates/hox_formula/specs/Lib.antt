@@ -1,0 +1,10 @@
+pub mod Expressions
+pub mod Grammar
+pub mod Fragments
+pub mod Parsing
+pub mod Formulas
+pub mod Collecting
+pub mod Compiling
+pub mod Lexing
+pub mod Texts
+pub mod Messages

@@ -1,0 +1,24 @@
+//! What is read of lines.
+use crate::fragment::Fragment;
+use crate::head::Head;
+use kpn_formula::Instruction;
+
+/// A line: what is assigned to, its place, and the code of what it becomes.
+#[derive(Drop)]
+pub struct Assignment {
+    pub head: Head,
+    pub place: u8,
+    pub fragment: Fragment,
+}
+
+/// Lines.
+#[derive(Drop)]
+pub struct Lines {
+    /// Does what the lines say.
+    pub code: Vec<Instruction>,
+    pub heads: Vec<Head>,
+    /// Which values are used as words, by place.
+    pub words: [bool; 6],
+    /// Which outputs become flags alone.
+    pub flags: [bool; 3],
+}

@@ -1,0 +1,10 @@
+pub mod Spelled
+pub mod Packed
+pub mod Tapes
+pub mod Shapes
+pub mod Encoded
+pub mod Places
+pub mod Words
+pub mod LawfulFormulas
+pub mod Names
+pub mod Runs

@@ -1,0 +1,2 @@
+pub mod RoundedLawful
+pub mod NextTurns

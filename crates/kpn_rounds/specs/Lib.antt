@@ -1,0 +1,4 @@
+pub mod Steps
+pub mod Rounds
+pub mod Numbers
+pub mod Turns

@@ -1,0 +1,22 @@
+-- What a process does next, whatever its step.
+use Rattle.std.specs.Prelude.{◌≡◌, ℕ, List, Option}
+use Rattle.kpn_model.specs.declared.token.Token.{Token}
+use Rattle.kpn_model.specs.declared.kinds.Signature.{Signature}
+use Rattle.kpn_model.specs.declared.kinds.Answer.{Answer}
+use Rattle.kpn_rounds.specs.declared.turns.Turn.{Turn}
+use Rattle.kpn_rounds.specs.declared.turns.Turn.TheVariants.{Acts, Steps}
+use Rattle.kpn_rounds.specs.Numbers.{list_of}
+use Rattle.kpn_rounds.specs.Rounds.{made_by, write_answer, read_answer, round_answer}
+
+-- the answer that a turn comes to with this step
+abbrev pub HasAnswer : Signature → (List ℕ → List ℕ → List ℕ × List ℕ) → List ℕ → Answer → Turn → Type 0
+HasAnswer s step kept answer (Acts act) = answer ≡ act
+HasAnswer s step kept answer (Steps inputs) = let made = made_by s step kept (list_of inputs) in answer ≡ write_answer s made.0 made.1
+
+-- the turn with these inputs read
+abbrev pub IsReadTurn : Signature → List ℕ → List ℕ → Turn → Type 0
+IsReadTurn s kept inputs turn = (step : List ℕ → List ℕ → List ℕ × List ℕ) → HasAnswer s step kept (read_answer s step kept inputs) turn
+
+-- the turn in a local state, after this token
+abbrev pub IsTurn : Signature → List ℕ → Option Token → Turn → Type 0
+IsTurn s local last turn = (step : List ℕ → List ℕ → List ℕ × List ℕ) → HasAnswer s step local (round_answer s step local last) turn
