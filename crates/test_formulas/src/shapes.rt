@@ -1,7 +1,7 @@
 //! Shapes and their numbers, worked out by hand from the table of bits.
 use crate::checks::same;
 use kpn_formula::Shape;
-use kpn_model::Sort;
+use kpn_model::{Card, Sort};
 
 const W: Option<Sort> = Some(Sort::Words);
 
@@ -67,4 +67,26 @@ fn other_numbers_have_no_shape(rt: HostRuntime) {
             (number, None),
         );
     }
+}
+
+/// The greatest argument of a formula's card.
+const GREATEST: u64 = (1 << 60) - 1;
+
+fn shape_of(kind: u16, args: [u64; 3]) -> Option<Shape> {
+    Shape::of(&Card { kind, args })
+}
+
+#[test]
+fn cards_have_the_shape_of_their_kind(rt: HostRuntime) {
+    let shape = Shape {
+        states: 0,
+        ins: [W, None, None],
+        outs: [F, None, None],
+    };
+    let above = GREATEST + 1;
+    same(&rt, "shape", shape_of(1064, [GREATEST; 3]), Some(shape));
+    same(&rt, "other kind", shape_of(45, [GREATEST; 3]), None);
+    same(&rt, "first", shape_of(1064, [above, 0, 0]), None);
+    same(&rt, "second", shape_of(1064, [0, above, 0]), None);
+    same(&rt, "third", shape_of(1064, [0, 0, above]), None);
 }
