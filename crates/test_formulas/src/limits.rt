@@ -170,3 +170,20 @@ fn a_shape_without_ports_has_no_card(rt: HostRuntime) {
         Err(Excess::NotAllowed),
     );
 }
+
+/// Parts of a text of ten bytes, and what lies within it.
+static PARTS: [[usize; 4]; 3] = [[3, 4, 3, 4], [8, 4, 8, 2], [12, 1, 10, 0]];
+
+#[test]
+fn faults_lie_within_the_text(rt: HostRuntime) {
+    let what = Wrong::Memory;
+    for [from, size, at, length] in PARTS {
+        let due = FormulaFault { at, length, what };
+        same(
+            &rt,
+            "fault",
+            FormulaFault::within(10, from, size, what),
+            due,
+        );
+    }
+}
