@@ -1,6 +1,7 @@
 //! What is wrong with a description, and with the name of a channel, and what would do.
 ghost use Rattle.std.specs.Prelude.{◌≤◌, length};
 
+use crate::formulas::{is_formula, say_formula};
 use crate::messages::place_of;
 use hox_args::KINDS as TABLE;
 use hox_network::{AllKinds, KINDS, sketch_by_ports};
@@ -65,7 +66,7 @@ pub(crate) fn is_said(message: &Message) -> bool {
 }
 
 /// Says what is wrong at a place of a sketch, in which so many processes are copies, and what would do.
-pub(crate) fn say_message<R: Eprint>(
+pub(crate) fn say_message<R: Eprint + AllocGlobal>(
     rt: &R,
     file: &str,
     sketch: &Sketch,
@@ -99,9 +100,15 @@ fn say_of_description<R: Eprint>(rt: &R, copies: usize, message: &Message) {
 }
 
 /// Says what is wrong with a process, and what would do.
-fn say_of_process<R: Eprint>(rt: &R, sketch: &Sketch, process: &ProcessSketch, message: &Message) {
+fn say_of_process<R: Eprint + AllocGlobal>(
+    rt: &R,
+    sketch: &Sketch,
+    process: &ProcessSketch,
+    message: &Message,
+) {
     let text = message.text.as_str();
     match message.fault {
+        NetFault::Kind if is_formula(process.kind.as_str()) => say_formula(rt, process),
         NetFault::Kind => say_unknown_kind(rt, process),
         NetFault::Args => say_arguments(rt, process, text),
         NetFault::Unused => {

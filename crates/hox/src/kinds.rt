@@ -1,13 +1,14 @@
 //! The list of the kinds of processes.
 use crate::hints::{line_of, near_kind, say_near};
 use crate::messages::say_kinds;
-use hox_args::{KINDS, KindsChoice};
+use hox_args::{FORMULA, KINDS, KindsChoice};
 use kpn_front::Status;
 
-/// Prints the table of kinds, or what it says of one, and returns the exit status.
+/// Prints the table of kinds, what it says of one, or how formulas are written, and returns the exit status.
 pub(crate) fn list_kinds<R: Print + Eprint>(rt: &R, choice: &KindsChoice<'_>) -> u8 {
     let printed = match choice.name {
         None => print!(rt; "{KINDS}"),
+        Some("formula") => print!(rt; "{FORMULA}"),
         Some(name) => match line_of(name) {
             Some(line) => println!(rt; "{line}"),
             None => return say_no_kind(rt, name),

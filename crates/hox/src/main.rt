@@ -3,6 +3,7 @@
 #![tactic(auto)]
 
 mod formats;
+mod formulas;
 mod hints;
 mod host;
 mod kinds;

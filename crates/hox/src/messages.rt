@@ -1,5 +1,6 @@
 //! What is said on standard error.
 use crate::formats::{lines_before, record_name, say_format};
+use crate::formulas::is_unknown_name;
 use crate::hints::{has_wrong_delay, is_said, say_message, say_no_channel, wants_version_2};
 use crate::reasons::{say_clash, say_undescribed, say_unread};
 use hox_args::WordsFault;
@@ -128,7 +129,7 @@ fn say_wrong<R: Eprint + AllocGlobal>(rt: &R, file: &str, text: &[u8], fault: Ne
     if messages
         .told
         .iter()
-        .any(|message| message.fault == NetFault::Kind)
+        .any(|message| is_unknown_name(&sketch, message))
     {
         say_kinds(rt);
     }

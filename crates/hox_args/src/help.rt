@@ -113,6 +113,25 @@ Kinds of processes, with their arguments and their ports, inputs -> outputs (w a
   gate            w f -> w    writes the words whose flag is true
 Signed means two's complement: from 2^63 on, a word stands for itself minus 2^64. V of constant, hold and prefix,
 K of scale and offset, A of gain, and LO and HI of clip may be negative.
+A kind may be a formula, such as \"y = y + (in - y) / 8; out = y\"; hox kinds formula tells how.
+";
+
+/// How formulas are written, for `hox kinds formula`.
+pub const FORMULA: &str = "\
+A process whose kind is a formula, without args, goes in rounds: it reads each of its inputs once, assigns, and writes
+each output once, for ever.
+  kind = \"y(100) = y + (in - y) / 8; out = y\"
+Assignments stand between semicolons and are made in order. Their targets are outputs (out, or out0 to out2) and states
+(any other name); the inputs are in, or in0 to in2. A state is 0 at first, or what stands in parentheses behind it at
+its first assignment. A name means what was assigned to it last: earlier in the round, or in the round before.
+  c ? a : b    ||    &&    |    ^    &    == !=    < <= > >=    << >>    + -    * / %    - ~ ! in front
+are the operators, the loosest first; beside them min(a, b), max(a, b), abs(a), numbers and parentheses.
+Words are signed, modulo 2^64. A quotient is rounded down, and one by 0 is 0; a % b is what it leaves. A shift by 64 or
+more gives 0, to the right the sign. Comparisons, !, && and || give 1 or 0, and all but 0 counts as true.
+An input that is used just as a condition carries flags, and so does an output whose values are all true or false;
+all else carries words.
+A card has room for 36 digits: a name, an operator or an assignment takes one, a number up to 31 two, others up to
+16383 four (one less where a number is a factor or a shift to the right).
 ";
 
 /// Pictures, for the help of `draw`.

@@ -9,5 +9,5 @@ pub use arguments::{
     CheckChoice, Choice, DrawChoice, KindsChoice, MAX_WORKERS, RunChoice, StreamChoice, WordsFault,
     channel_and_file, read_words,
 };
-pub use help::KINDS;
+pub use help::{FORMULA, KINDS};
 pub use kpn_picture::Direction;

@@ -1,2 +1,3 @@
 pub mod Pictures
 pub mod Served
+pub mod Titled

@@ -13,20 +13,21 @@ use Rattle.kpn_picture.specs.Picture.{picture}
 use Rattle.hox_network.specs.declared.request.Request.{Request}
 use Rattle.hox_network.specs.declared.request.Fault.{Fault}
 use Rattle.hox_network.specs.Preparing.{IsFault, Prepares}
+use Rattle.hox_draw.specs.Titles.{AreTitles}
 
--- the family of a network, the titles of its kinds, and the direction
-module _ (kinds : Family) (title : ℕ → List ℕ × ℕ) (direction : Direction) where
+-- the family of a network, the titles of its kinds, the direction, and the titles of its processes
+module _ (kinds : Family) (title : ℕ → List ℕ × ℕ) (direction : Direction) (titles : List (List ℕ)) where
   abbrev pub digest_picture : Network → Digest → List ℕ
-  digest_picture net d = picture direction title net (Some d.cause) d.places d.capacities d.rests
+  digest_picture net d = picture direction titles title net (Some d.cause) d.places d.capacities d.rests
 
   -- the picture of a run to M that ended for this cause; if the budget was spent or memory ran out, only the cause
   abbrev pub run_picture : Network → End → List Entry → State → List ℕ
-  run_picture net cause E M = if has_report cause then digest_picture net (digest kinds net cause E M) else picture direction title net (Some cause) [] [] []
+  run_picture net cause E M = if has_report cause then digest_picture net (digest kinds net cause E M) else picture direction titles title net (Some cause) [] [] []
 
   -- the picture of a report, with its detail, if any
   abbrev pub report_picture : Network → End → Option Detail → List ℕ
-  report_picture net end None = picture direction title net (Some end) [] [] []
-  report_picture net end (Some d) = picture direction title net (Some end) d.places d.capacities d.rests
+  report_picture net end None = picture direction titles title net (Some end) [] [] []
+  report_picture net end (Some d) = picture direction titles title net (Some end) d.places d.capacities d.rests
 
   -- a run from the start ended for a justified cause, and this is its picture; if it ended by itself, it is
   -- the picture of each run that is over
@@ -40,18 +41,22 @@ module _ (kinds : Family) (title : ℕ → List ℕ × ℕ) (direction : Directi
     pub settled : has_report cause ≡ true → (F : List Entry) (N : State) (b : End) → IsFinal kinds net F N b → text ≡ digest_picture net (digest kinds net b F N)
 
   abbrev pub DrawsNet : Network → List ℕ → Type 0
-  DrawsNet net text = text ≡ picture direction title net None [] [] []
+  DrawsNet net text = text ≡ picture direction titles title net None [] [] []
 
   -- a network is drawn: itself, or as a run left it
   abbrev pub Draws : Bool → Network → List ℕ → Type 0
   Draws false net text = DrawsNet net text
   Draws true net text = DrawsRun net text
 
-  -- the network is prepared as requested, and this is its picture
+-- the family of a network, the names and the titles of its kinds, and the direction
+module _ (kinds : Family) (named : List ℕ → Option (ℕ × ℕ)) (title : ℕ → List ℕ × ℕ) (direction : Direction) where
+  -- the network is prepared as requested, and this is its picture, with titles of its processes
   pub record DrawsPrepared (is_run : Bool) (request : Request) (net : Network) (text : List ℕ) : Type 0 where
     pub other : Network
     pub prepares : Prepares request net other
-    pub draws : Draws is_run other text
+    pub titles : List (List ℕ)
+    pub are_titles : AreTitles named other titles
+    pub draws : Draws kinds title direction titles is_run other text
 
   -- the result of a loaded network: its picture, or a fault
   abbrev pub GivesPicture : {Z : Type 0} → Bool → Request → Network → Result (String Z) Fault → Type 0

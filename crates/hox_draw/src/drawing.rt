@@ -1,5 +1,5 @@
 //! Draws the network of a description.
-ghost use Rattle.std.specs.Prelude.{◌≡◌, ◌+◌, IfOk, IfErr, string_bytes};
+ghost use Rattle.std.specs.Prelude.{◌≡◌, ◌+◌, false, IfOk, IfErr, Some, string_bytes};
 ghost use Rattle.kpn_model.specs.Network.{Network as NetworkV};
 ghost use Rattle.kpn_model.specs.Families.{family};
 ghost use Rattle.kpn_front.specs.Loading.{ConsumesAtMost, longest};
@@ -7,18 +7,20 @@ ghost use Rattle.hox_network.specs.Preparing.{HasFewWorkers, IsFault, Serves};
 ghost use Rattle.hox_draw.specs.Drawing.{Draws, DrawsNet, GivesPicture};
 
 use crate::running::draw_run;
+use crate::titles::titles_of;
 use hox_network::{Fault, Request, RunFault, prepare};
 use kpn_compute::Computes;
-use kpn_front::Source;
+use kpn_front::{Refused, Source, read_text};
 use kpn_network::Net;
-use kpn_picture::{Direction, Left, Titled, picture_of};
+use kpn_picture::{Direction, Left, Style, Titled, picture_of};
 use std::alloc::{AllocError, Global};
 use std::rt::Clock;
 use std::sync::Wait;
 use std::thread::Threads;
 
 /// Reads a description, sets the start tokens of the request's files and the request's budget, and returns the
-/// picture of the network: as it is, or, if `is_run`, as a run with the request's 1 to 16 workers left it.
+/// picture of the network: as it is, or, if `is_run`, as a run with the request's 1 to 16 workers left it. A process
+/// whose kind in the description is a formula has that as its title.
 ///
 /// Errors: see [`Fault`], except `NoShown` and `NoOutput`; `Lost` only with several workers.
 pub fn draw<K: Computes + Titled, I: Source, R: Wait + Clock + Threads + Sync>(
@@ -30,14 +32,42 @@ pub fn draw<K: Computes + Titled, I: Source, R: Wait + Clock + Threads + Sync>(
     source: &mut I,
 ) -> Result<String, Fault>
     requires { HasFewWorkers request.now }
-    ensures served { Serves K.named K.signature (GivesPicture (family K.Kinds) K.title direction is_run request.now) (I.remaining source.old) (I.has_failed source.old) (I.has_failed source.new) result }
+    ensures served { Serves K.named K.signature (GivesPicture (family K.Kinds) K.named K.title direction is_run request.now) (I.remaining source.old) (I.has_failed source.old) (I.has_failed source.new) result }
     ensures taken { ConsumesAtMost (longest + 1) (I.remaining source.old) (I.remaining source.new) }
 {
-    let prepared: Result<Net<K>, Fault> = prepare(alloc, request, source);
-    match prepared {
-        Ok(net) => draw_prepared(rt, alloc, request, net, direction, is_run),
-        Err(fault) => Err(fault),
+    match read_text(alloc, source) {
+        Ok(text) => draw_text::<K, R>(rt, alloc, request, direction, is_run, text.as_slice()),
+        Err(fault) => {
+            let text = Vec::new(alloc);
+            Err(Fault::Description(Refused { fault, text }))
+        }
     }
+}
+
+fn draw_text<K: Computes + Titled, R: Wait + Clock + Threads + Sync>(
+    rt: &R,
+    alloc: Global,
+    request: &Request,
+    direction: Direction,
+    is_run: bool,
+    text: &[u8],
+) -> Result<String, Fault>
+    requires { HasFewWorkers request.now }
+    ensures { Serves K.named K.signature (GivesPicture (family K.Kinds) K.named K.title direction is_run request.now) (Some text.now) false false result }
+{
+    let mut source = text;
+    let net: Net<K> = match prepare(alloc, request, &mut source) {
+        Ok(net) => net,
+        Err(fault) => return Err(fault),
+    };
+    let Ok(titles) = titles_of(alloc, &net, text) else {
+        return Err(Fault::Memory);
+    };
+    let style = Style {
+        direction,
+        titles: titles.as_slice(),
+    };
+    draw_prepared(rt, alloc, request, net, &style, is_run)
 }
 
 fn draw_prepared<K: Computes + Titled, R: Wait + Clock + Threads + Sync>(
@@ -45,34 +75,30 @@ fn draw_prepared<K: Computes + Titled, R: Wait + Clock + Threads + Sync>(
     alloc: Global,
     request: &Request,
     net: Net<K>,
-    direction: Direction,
+    style: &Style<'_>,
     is_run: bool,
 ) -> Result<String, Fault>
     requires { HasFewWorkers request.now }
-    ensures drawn { IfOk result (λ picture. Draws (family K.Kinds) K.title direction is_run net (string_bytes picture)) }
+    ensures drawn { IfOk result (λ picture. Draws (family K.Kinds) K.title style.now.direction style.now.titles.now is_run net (string_bytes picture)) }
     ensures fault { IfErr result (λ e. (m : NetworkV) → IsFault request.now m e) }
 {
     if !is_run {
-        return draw_net(alloc, &net, direction).map_err(|_| Fault::Memory);
+        return draw_net(alloc, &net, style).map_err(|_| Fault::Memory);
     }
-    match draw_run(rt, alloc, net, direction, request.workers) {
+    match draw_run(rt, alloc, net, style, request.workers) {
         Ok(picture) => Ok(picture),
         Err(RunFault::Memory) => Err(Fault::Memory),
         Err(RunFault::Lost) => Err(Fault::Lost),
     }
 }
 
-fn draw_net<K: Titled>(
-    alloc: Global,
-    net: &Net<K>,
-    direction: Direction,
-) -> Result<String, AllocError>
-    ensures { IfOk result (λ picture. DrawsNet (family K.Kinds) K.title direction net.now (string_bytes picture)) }
+fn draw_net<K: Titled>(alloc: Global, net: &Net<K>, style: &Style<'_>) -> Result<String, AllocError>
+    ensures { IfOk result (λ picture. DrawsNet (family K.Kinds) K.title style.now.direction style.now.titles.now net.now (string_bytes picture)) }
 {
     let start = Left {
         places: &[],
         capacities: &[],
         rests: &[],
     };
-    picture_of(alloc, net, direction, None, &start)
+    picture_of(alloc, net, style, None, &start)
 }

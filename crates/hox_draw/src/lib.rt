@@ -3,6 +3,7 @@
 
 mod drawing;
 mod running;
+mod titles;
 
 pub use drawing::draw;
 pub use kpn_picture::Direction;

@@ -9,7 +9,7 @@ use kpn_compute::{CardBody, Computes, bodies_of};
 use kpn_laws::determinacy_of;
 use kpn_machine::{Chronicle, Machine};
 use kpn_network::Net;
-use kpn_picture::{Direction, Left, Titled, picture_of};
+use kpn_picture::{Left, Style, Titled, picture_of};
 use kpn_report::{Report, places_of, report_of};
 use kpn_run::{Prompt, RunFault as Fault, run};
 use std::alloc::{AllocError, Global};
@@ -24,20 +24,20 @@ pub(crate) fn draw_run<K: Computes + Titled, R: Wait + Clock + Threads + Sync>(
     rt: &R,
     alloc: Global,
     net: Net<K>,
-    direction: Direction,
+    style: &Style<'_>,
     workers: usize,
 ) -> Result<String, RunFault>
     requires { (1 ≤ workers) × (workers ≤ 16) }
-    ensures drawn { IfOk result (λ picture. DrawsRun (family K.Kinds) K.title direction net (string_bytes picture)) }
+    ensures drawn { IfOk result (λ picture. DrawsRun (family K.Kinds) K.title style.now.direction style.now.titles.now net (string_bytes picture)) }
     ensures lost { result ≡ Err RunFault.Lost → 1 < workers }
 {
     let Ok(bodies) = bodies_of(alloc, &net) else {
         return Err(RunFault::Memory);
     };
     if workers == 1 {
-        draw_alone(alloc, net, bodies, direction).map_err(|_| RunFault::Memory)
+        draw_alone(alloc, net, bodies, style).map_err(|_| RunFault::Memory)
     } else {
-        draw_by_workers(rt, alloc, net, bodies, direction, workers)
+        draw_by_workers(rt, alloc, net, bodies, style, workers)
     }
 }
 
@@ -45,15 +45,15 @@ fn draw_alone<K: Computes + Titled>(
     alloc: Global,
     net: Net<K>,
     bodies: Vec<CardBody<K>>,
-    direction: Direction,
+    style: &Style<'_>,
 ) -> Result<String, AllocError>
-    ensures { IfOk result (λ picture. DrawsRun (family K.Kinds) K.title direction net (string_bytes picture)) }
+    ensures { IfOk result (λ picture. DrawsRun (family K.Kinds) K.title style.now.direction style.now.titles.now net (string_bytes picture)) }
 {
     let Ok(mut machine) = Machine::open(alloc, net, bodies) else {
         return Err(AllocError);
     };
     machine.finish_alone();
-    picture_of_run(alloc, &machine.into_chronicle(), direction)
+    picture_of_run(alloc, &machine.into_chronicle(), style)
 }
 
 fn draw_by_workers<K: Computes + Titled, R: Wait + Clock + Threads + Sync>(
@@ -61,16 +61,16 @@ fn draw_by_workers<K: Computes + Titled, R: Wait + Clock + Threads + Sync>(
     alloc: Global,
     net: Net<K>,
     bodies: Vec<CardBody<K>>,
-    direction: Direction,
+    style: &Style<'_>,
     workers: usize,
 ) -> Result<String, RunFault>
     requires cards { map ⟦<CardBody<K> as Body>⟧.card bodies.items ≡ map (λ p. p.card) net.processes }
     requires workers { (1 < workers) × (workers ≤ 16) }
-    ensures { IfOk result (λ picture. DrawsRun (family K.Kinds) K.title direction net (string_bytes picture)) }
+    ensures { IfOk result (λ picture. DrawsRun (family K.Kinds) K.title style.now.direction style.now.titles.now net (string_bytes picture)) }
 {
     match run(rt, alloc, net, bodies, workers, &Prompt) {
         Ok(finish) => {
-            picture_of_run(alloc, finish.chronicle(), direction).map_err(|_| RunFault::Memory)
+            picture_of_run(alloc, finish.chronicle(), style).map_err(|_| RunFault::Memory)
         }
         Err(Fault::Memory { .. }) => Err(RunFault::Memory),
         Err(Fault::Lost { .. }) => Err(RunFault::Lost),
@@ -82,10 +82,10 @@ fn draw_by_workers<K: Computes + Titled, R: Wait + Clock + Threads + Sync>(
 fn picture_of_run<K: Titled>(
     alloc: Global,
     chronicle: &Chronicle<K>,
-    direction: Direction,
+    style: &Style<'_>,
 ) -> Result<String, AllocError>
     requires { IsSome chronicle.now.end }
-    ensures { IfOk result (λ picture. DrawsRun (family K.Kinds) K.title direction chronicle.now.network (string_bytes picture)) }
+    ensures { IfOk result (λ picture. DrawsRun (family K.Kinds) K.title style.now.direction style.now.titles.now chronicle.now.network (string_bytes picture)) }
 {
     let Some(end) = chronicle.end() else {
         unreachable!()
@@ -94,17 +94,17 @@ fn picture_of_run<K: Titled>(
     let net = chronicle.net();
     let places = places_of(alloc, net, chronicle.standings())?;
     let report = report_of(alloc, net, chronicle.history(), places, end)?;
-    let picture = picture_of_report(alloc, net, direction, &report)?;
+    let picture = picture_of_report(alloc, net, style, &report)?;
     Ok(picture)
 }
 
 fn picture_of_report<K: Titled>(
     alloc: Global,
     net: &Net<K>,
-    direction: Direction,
+    style: &Style<'_>,
     report: &Report,
 ) -> Result<String, AllocError>
-    ensures { IfOk result (λ picture. string_bytes picture ≡ report_picture (family K.Kinds) K.title direction net.now report.now.end report.now.detail) }
+    ensures { IfOk result (λ picture. string_bytes picture ≡ report_picture (family K.Kinds) K.title style.now.direction style.now.titles.now net.now report.now.end report.now.detail) }
 {
     let left = match &report.detail {
         Some(detail) => Left {
@@ -118,5 +118,5 @@ fn picture_of_report<K: Titled>(
             rests: &[],
         },
     };
-    picture_of(alloc, net, direction, Some(report.end), &left)
+    picture_of(alloc, net, style, Some(report.end), &left)
 }

@@ -5,10 +5,9 @@ use Rattle.kpn_sketch.specs.declared.fault.NetFault.TheVariants.{Input}
 use Rattle.kpn_model.specs.declared.kinds.Card.{Card}
 use Rattle.kpn_model.specs.declared.kinds.Signature.{Signature}
 use Rattle.kpn_model.specs.Network.{Network}
-use Rattle.kpn_sketch.specs.Description.{delayed_of}
-use Rattle.kpn_front.specs.Loading.{LoadsChanged}
 use Rattle.hox_network.specs.declared.request.Fault.{Fault}
-use Rattle.hox_network.specs.Meant.{as_meant}
+use Rattle.hox_network.specs.Meant.{LoadsMeant}
+use Rattle.hox_network.proofs.Meant.{loads_unread}
 use Rattle.hox_network.specs.Preparing.{GivesLoaded, Serves, refusal}
 use Rattle.hox_network.proofs.Served.{serves_on}
 use Rattle.hox_files.specs.Requests.{ServesFile}
@@ -30,7 +29,7 @@ module _ (contents : List ℕ → Option (List ℕ)) (named : List ℕ → Optio
         has_failed = true;
         serves = record {
           loaded = Err Input;
-          loads = λ _. always (λ text. LoadsChanged delayed_of (as_meant named signature text) named signature true text (Err Input)) (contents name) (λ _. inl refl);
+          loads = λ _. always (λ text. LoadsMeant named signature true text (Err Input)) (contents name) (λ text. loads_unread named signature true text (Err Input) (inl refl));
           failed = λ _ _. refl;
           comes = refused;
         };

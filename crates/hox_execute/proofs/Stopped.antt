@@ -32,6 +32,16 @@ module _ (kinds : Family) (named : List ℕ → Option (ℕ × ℕ)) (signature 
   faulty_unopened {X} name ends sketch is_in (Ok x) h = tt
   faulty_unopened {X} name ends sketch is_in (Err e) h = faulty name ends sketch is_in e h
 
+  module _ (clash : List ℕ → Bool → List ℕ → Bool → Option Bool) (choice : StreamChoice) where
+    pub no_ends : (stop : StreamStop) → IsNoEnds clash choice stop → IsStreamStop kinds named signature contents clash choice stop
+    no_ends (Asked stop) h = h
+    no_ends OutputTwice h = h
+    no_ends (Refused file refused error) h = absurd h
+    no_ends (NotOpened others channels fault) h = absurd h
+    no_ends (Headless file fault) h = absurd h
+    no_ends (Unread file error) h = absurd h
+    no_ends (Unwritten file error) h = absurd h
+
   module _ (clash : List ℕ → Bool → List ℕ → Bool → Option Bool) (choice : StreamChoice) (ends : Ends) (chosen : AreEnds clash choice ends) where
     unfit : (stop : StreamStop) → IsUnfit ends stop → IsStreamStop kinds named signature contents clash choice stop
     unfit (Asked stop) h = subst (λ (s : Stop). IsNoEnds clash choice (Asked s)) (sym h) tt

@@ -23,8 +23,8 @@ use Rattle.hox_expanded.specs.Description.{description}
 use Rattle.hox_files.specs.Requests.{IsAsked, IsUnasked, ServesFile, Want}
 
 -- the result of drawing a loaded network: its picture, or a fault
-abbrev pub GivesDrawing : Family → (ℕ → List ℕ × ℕ) → Direction → Bool → Request → Network → Result (List ℕ) Fault → Type 0
-GivesDrawing kinds title direction is_run request net result = MatchResult result (DrawsPrepared kinds title direction is_run request net) (IsFault request net)
+abbrev pub GivesDrawing : Family → (List ℕ → Option (ℕ × ℕ)) → (ℕ → List ℕ × ℕ) → Direction → Bool → Request → Network → Result (List ℕ) Fault → Type 0
+GivesDrawing kinds named title direction is_run request net result = MatchResult result (DrawsPrepared kinds named title direction is_run request net) (IsFault request net)
 
 -- what is written of a network that is accepted: a line, or the network as a description
 abbrev pub checked_text : (ℕ → List ℕ × ℕ) → Bool → Network → List ℕ
@@ -72,5 +72,5 @@ module _ (named : List ℕ → Option (ℕ × ℕ)) (signature : Card → Option
       pub record HasDrawn (kinds : Family) (title : ℕ → List ℕ × ℕ) (direction : Direction) (is_run : Bool) : Type 0 where
         pub asked : Asked
         pub picture : List ℕ
-        pub comes : Comes (GivesDrawing kinds title direction is_run) asked (Ok picture)
+        pub comes : Comes (GivesDrawing kinds named title direction is_run) asked (Ok picture)
         pub writes : Writes Success (wrote standard picture ∷ []) steady before after status

@@ -10,11 +10,10 @@ use Rattle.kpn_model.specs.declared.kinds.Card.{Card}
 use Rattle.kpn_model.specs.declared.kinds.Signature.{Signature}
 use Rattle.kpn_model.specs.Network.{Family, Network}
 use Rattle.kpn_net.specs.Sketched.{net_of}
-use Rattle.kpn_front.specs.Loading.{LoadsChanged}
 use Rattle.kpn_front.specs.Written.{SinkView}
 use Rattle.kpn_compute.specs.Both.{both_family, both_named, both_ports}
 use Rattle.kpn_flow.specs.Flows.{FlowView}
-use Rattle.hox_network.specs.Meant.{as_meant}
+use Rattle.hox_network.specs.Meant.{IsSketchOf, LoadsMeant}
 use Rattle.hox_stream.specs.declared.finish.Finish.{Finish}
 use Rattle.hox_stream.specs.declared.serving.LaidOut.{LaidOut}
 use Rattle.hox_stream.specs.declared.serving.LaidTable.{LaidTable}
@@ -195,7 +194,7 @@ pub record RunsBetween (kinds : Family) (contents : List ℕ → Option (List �
   pub serves : Serves kinds start t (sources_at start openings) ins (new_outs (λ (v : SinkView). v) start.outputs sinks tables) outs finish
 
 abbrev pub IsRefusedText : (List ℕ → Option (ℕ × ℕ)) → (Card → Option Signature) → List ℕ → Unopened → Type 0
-IsRefusedText named signature text (IsRefused refused error) = LoadsChanged delayed_of (as_meant named signature text) named signature false text (Err refused.fault)
+IsRefusedText named signature text (IsRefused refused error) = LoadsMeant named signature false text (Err refused.fault)
 IsRefusedText named signature text (Faulty channels fault) = ⊥
 IsRefusedText named signature text NoMemory = Unit {0}
 
@@ -206,17 +205,13 @@ IsUnreadText (Faulty channels fault) = ⊥
 IsUnreadText NoMemory = Unit {0}
 
 module _ (named : List ℕ → Option (ℕ × ℕ)) (signature : Card → Option Signature) where
-  -- a text has this completed sketch
-  abbrev pub IsSketchOf : List ℕ → Sketch → Type 0
-  IsSketchOf text sketch = (described : Delayed) × DescribesDelayed text described × (sketch ≡ as_meant named signature text described)
-
   module _ (contents : List ℕ → Option (List ℕ)) (name : List ℕ) where
     -- this is the text of the file, if known
     abbrev pub IsTextIn : List ℕ → Type 0
     IsTextIn text = IfSome (contents name) (λ bytes. text ≡ bytes)
 
     abbrev pub IsSketchIn : Sketch → Type 0
-    IsSketchIn sketch = (text : List ℕ) × IsTextIn text × IsSketchOf text sketch
+    IsSketchIn sketch = (text : List ℕ) × IsTextIn text × IsSketchOf named signature text sketch
 
     -- the description can't be read, or its text has the fault
     abbrev pub IsRefusedIn : Unopened → Type 0

@@ -69,7 +69,7 @@ fn drawn<K: Computes + Titled, S: FileSystem, R: Wait + Clock + Threads + Sync>(
     is_run: bool,
 ) -> Result<String, Unserved>
     requires { HasFewWorkers request.now }
-    ensures { ServesNamed (S.contents files.now) K.named K.signature (GivesPicture (family K.Kinds) K.title direction is_run request.now) name.now result }
+    ensures { ServesNamed (S.contents files.now) K.named K.signature (GivesPicture (family K.Kinds) K.named K.title direction is_run request.now) name.now result }
 {
     let mut source = match files.open(name) {
         Ok(source) => Watched::new(source),

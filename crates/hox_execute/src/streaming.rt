@@ -7,7 +7,8 @@ ghost use Rattle.kpn_model.specs.Families.{family};
 ghost use Rattle.hox_stream.specs.Serves.{Serves, new_inlets, new_outs};
 ghost use Rattle.hox_stream.specs.Views.{outs};
 ghost use Rattle.hox_files.specs.Pairs.{AreUsable, channels_of};
-ghost use Rattle.hox_execute.specs.Streaming.{AreEnds, ArePairsOf, AreUnpaired, IsFaultyBetween, IsNoEnds, IsOpened, IsRefusedIn, IsRefusedText, IsSketchIn, IsSketchOf, IsStreamStop, IsUnfit, IsUnopened, IsUnread, IsUnreadText, Opens, RunsBetween, StartsBetween, StreamsBetween, formats_of, inputs_of, laid_source, outputs_of};
+ghost use Rattle.hox_network.specs.Meant.{IsSketchOf};
+ghost use Rattle.hox_execute.specs.Streaming.{AreEnds, ArePairsOf, AreUnpaired, IsFaultyBetween, IsNoEnds, IsOpened, IsRefusedIn, IsRefusedText, IsSketchIn, IsStreamStop, IsUnfit, IsUnopened, IsUnread, IsUnreadText, Opens, RunsBetween, StartsBetween, StreamsBetween, formats_of, inputs_of, laid_source, outputs_of};
 
 use crate::sinks::{sinks_of, tables_of};
 use crate::texts::USUAL_RATE;

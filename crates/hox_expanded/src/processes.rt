@@ -2,14 +2,14 @@
 ghost use Rattle.std.specs.Prelude.{◌≡◌, ◌++◌, ◌<◌, OnOk, IsSome, length, string_bytes};
 ghost use Rattle.kpn_model.specs.Network.{card_of};
 ghost use Rattle.kpn_model.specs.NamesAndLines.{lines_upto};
-ghost use Rattle.kpn_picture.specs.Titles.{below};
+ghost use Rattle.kpn_picture.specs.Titles.{below, name_of};
 ghost use Rattle.hox_expanded.specs.Description.{argument_text, arguments_part, kind_part, later_argument, process_line};
 
 use crate::channels::push_name;
 use kpn_model::{Card, Kinds};
 use kpn_network::Net;
 use kpn_network::names::process_name;
-use kpn_picture::Titled;
+use kpn_picture::{Title, Titled};
 use std::alloc::AllocError;
 use std::fmt::Write;
 
@@ -69,10 +69,12 @@ fn card<K: Kinds>(net: &Net<K>, p: usize) -> Card
     net.card(p)
 }
 
-fn push_kind(out: &mut String, kind: &str) -> Result<(), AllocError>
-    ensures { OnOk result (string_bytes out.new ≡ string_bytes out.old ++ kind_part kind.now) }
+fn push_kind(out: &mut String, title: Title) -> Result<(), AllocError>
+    ensures { OnOk result (string_bytes out.new ≡ string_bytes out.old ++ kind_part (name_of title.word.now title.number)) }
 {
-    write!(out, "\", kind = \"{kind}\"")
+    out.push_str("\", kind = \"")?;
+    title.push_name(out)?;
+    out.push_str("\"")
 }
 
 fn push_process<K: Titled>(out: &mut String, net: &Net<K>, p: usize) -> Result<(), AllocError>
@@ -81,10 +83,10 @@ fn push_process<K: Titled>(out: &mut String, net: &Net<K>, p: usize) -> Result<(
 {
     let name = process_name(net, p);
     let card = card(net, p);
-    let (kind, arity) = K::title(&card);
+    let title = K::title(&card);
     push_name(out, name)?;
-    push_kind(out, kind)?;
-    push_arguments(out, &card, arity)?;
+    push_kind(out, title)?;
+    push_arguments(out, &card, title.arguments)?;
     out.push_str(" },\n")?;
     Ok(())
 }

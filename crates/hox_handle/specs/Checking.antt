@@ -2,16 +2,14 @@
 use Rattle.std.specs.Prelude.{◌≡◌, ℕ, List, Result, Ok, Err, false}
 use Rattle.kpn_sketch.specs.declared.fault.NetFault.{NetFault}
 use Rattle.kpn_model.specs.Network.{Network}
-use Rattle.kpn_sketch.specs.Description.{delayed_of}
-use Rattle.kpn_front.specs.Loading.{LoadsChanged}
-use Rattle.hox_network.specs.Meant.{as_meant}
+use Rattle.hox_network.specs.Meant.{LoadsMeant}
 use Rattle.hox_handle.specs.declared.answers.Answer.{Answer}
 use Rattle.hox_handle.specs.declared.answers.Answer.TheVariants.{Done, Description}
 use Rattle.hox_handle.specs.Opening.{all_named, all_ports}
 
 -- the result of loading the whole text, with its sketch completed
 abbrev pub LoadsText : List ℕ → Result Network NetFault → Type 0
-LoadsText text loaded = LoadsChanged delayed_of (as_meant all_named all_ports text) all_named all_ports false text loaded
+LoadsText text loaded = LoadsMeant all_named all_ports false text loaded
 
 abbrev pub answer_of_loaded : Result Network NetFault → Answer
 answer_of_loaded (Ok net) = Done

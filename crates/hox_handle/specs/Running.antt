@@ -3,21 +3,16 @@ use Rattle.std.specs.Prelude.{◌≡◌, ℕ, true, List, Option, None, Result, 
 use Rattle.kpn_sketch.specs.declared.fault.NetFault.{NetFault}
 use Rattle.kpn_model.specs.declared.history.Entry.{Entry}
 use Rattle.kpn_model.specs.declared.history.End.{End}
-use Rattle.kpn_model.specs.Network.{Family, Network}
+use Rattle.kpn_model.specs.Network.{Network}
 use Rattle.kpn_model.specs.Semantics.{State}
 use Rattle.kpn_model.specs.Determinacy.{IsRun, IsFinal}
 use Rattle.kpn_model.specs.Endings.{MayEnd, has_report}
 use Rattle.kpn_laws.specs.RoomOfRun.{TakesLeastRoom}
 use Rattle.kpn_laws.specs.StreamsOfRun.{ApproachLeastSolution}
-use Rattle.kpn_standard.specs.Standard.{standard}
-use Rattle.kpn_signals.specs.Family.{signals}
-use Rattle.kpn_compute.specs.Both.{both_family}
 use Rattle.kpn_report.specs.Text.{report_text}
 use Rattle.hox_handle.specs.declared.running.Told.{Told}
+use Rattle.hox_handle.specs.Sessions.{all_kinds}
 use Rattle.hox_handle.specs.Checking.{LoadsText}
-
-abbrev pub all_kinds : Family
-all_kinds = both_family standard signals
 
 -- a run from the start has a justified end; it takes least room, its streams approach the least solution of
 -- the network's equations, and this is its report; if it is over, every run that is over has the same report

@@ -5,6 +5,9 @@ use Rattle.kpn_model.specs.Network.{Family, Network, channel_of, number_of_chann
 use Rattle.kpn_model.specs.Semantics.{tokens, capacity}
 use Rattle.kpn_standard.specs.Standard.{standard}
 use Rattle.kpn_signals.specs.Family.{signals}
+use Rattle.kpn_rounds.specs.Rounds.{rounds_family}
+use Rattle.kpn_formula.specs.Shapes.{ports as formula_ports}
+use Rattle.kpn_formula.specs.Formulas.{start as formula_start, step as formula_step}
 use Rattle.kpn_compute.specs.Both.{both_family}
 use Rattle.hox_stream.specs.Exits.{exits}
 use Rattle.kpn_flow.specs.declared.pause.Pause.{Pause}
@@ -15,9 +18,12 @@ use Rattle.hox_handle.specs.declared.answers.Answer.TheVariants.{Done, NoChannel
 use Rattle.hox_handle.specs.declared.words.Moved.{Moved}
 use Rattle.hox_handle.specs.Words.{Feeds, Drains}
 
--- all kinds of descriptions, and readers that stop at once
+-- all kinds of descriptions; below, readers that stop at once too
+abbrev pub all_kinds : Family
+all_kinds = both_family (both_family standard signals) (rounds_family formula_ports formula_start formula_step)
+
 abbrev pub flow_kinds : Family
-flow_kinds = both_family (both_family standard signals) exits
+flow_kinds = both_family all_kinds exits
 
 abbrev pub nothing_for : Answer → Moved
 nothing_for answer = record { count = 0; answer = answer }

@@ -65,8 +65,14 @@ impl Session {
         ensures ok { IfOk result (Opens text.now inputs.now outputs.now) }
         ensures fault { IfErr result (IsOpenFault text.now inputs.now outputs.now) }
     {
-        let fed = names_in(alloc, inputs)?;
-        let drained = names_in(alloc, outputs)?;
+        let fed = match names_in(alloc, inputs) {
+            Ok(fed) => fed,
+            Err(fault) => return Err(fault),
+        };
+        let drained = match names_in(alloc, outputs) {
+            Ok(drained) => drained,
+            Err(fault) => return Err(fault),
+        };
         match open_between(alloc, text, fed.as_slice(), drained.as_slice()) {
             Ok(session) => Ok(session),
             Err(fault) => Err(OpenFault::Unopened(fault)),

@@ -42,7 +42,7 @@ impl Session {
     pub fn feed(&mut self, place: usize, words: &[u64]) -> Moved
         ensures { FeedsAt self.old self.new place words.now result }
     {
-        let Some(input) = self.inputs.get(place).copied() else {
+        let Some(input) = channel_at(&self.inputs, place) else {
             return nothing_for(Answer::NoChannel);
         };
         feed_words(&mut self.flow, input, words)
@@ -147,4 +147,10 @@ impl Session {
     {
         self.flow.stand()
     }
+}
+
+fn channel_at(channels: &Vec<usize>, place: usize) -> Option<usize>
+    ensures { result ≡ slice_get channels.now.items place }
+{
+    channels.get(place).copied()
 }

@@ -7,3 +7,4 @@ pub mod FilesSaid
 pub mod Meant
 pub mod Served
 pub mod FanOut
+pub mod Writing

@@ -3,6 +3,7 @@ pub mod Signs
 pub mod Copies
 pub mod Ports
 pub mod Delays
+pub mod Formulas
 pub mod Meant
 pub mod Presets
 pub mod Statuses

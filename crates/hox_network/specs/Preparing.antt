@@ -5,13 +5,11 @@ use Rattle.kpn_sketch.specs.declared.fault.NetFault.TheVariants.{Input}
 use Rattle.kpn_model.specs.declared.kinds.Card.{Card}
 use Rattle.kpn_model.specs.declared.kinds.Signature.{Signature}
 use Rattle.kpn_model.specs.Network.{Network, number_of_channel}
-use Rattle.kpn_sketch.specs.Description.{delayed_of}
-use Rattle.kpn_front.specs.Loading.{LoadsChanged}
 use Rattle.hox_network.specs.declared.request.Request.{Request}
 use Rattle.hox_network.specs.declared.request.Fault.{Fault}
 use Rattle.hox_network.specs.declared.request.Fault.TheVariants.{Description, Tokens, Budget, NoHolder, NoShown, NoOutput, Memory, Lost}
 use Rattle.hox_network.specs.declared.presets.FileFault.TheVariants.{NoChannel}
-use Rattle.hox_network.specs.Meant.{as_meant}
+use Rattle.hox_network.specs.Meant.{LoadsMeant}
 use Rattle.hox_network.specs.Presets.{PresetAll, Stops, greatest_budget, with_budget}
 
 abbrev pub HasFewWorkers : Request → Type 0
@@ -67,6 +65,6 @@ GivesLoaded gives (Err fault) result = MatchResult result (λ x. ⊥) (λ e. ref
 -- failed before and after
 pub record Serves {X : Type 0} (named : List ℕ → Option (ℕ × ℕ)) (signature : Card → Option Signature) (gives : Network → Result X Fault → Type 0) (input : Option (List ℕ)) (failed_before failed_after : Bool) (result : Result X Fault) : Type 0 where
   pub loaded : Result Network NetFault
-  pub loads : failed_before ≡ false → IfSome input (λ text. LoadsChanged delayed_of (as_meant named signature text) named signature failed_after text loaded)
+  pub loads : failed_before ≡ false → IfSome input (λ text. LoadsMeant named signature failed_after text loaded)
   pub failed : failed_before ≡ false → failed_after ≡ true → loaded ≡ Err Input
   pub comes : GivesLoaded gives loaded result

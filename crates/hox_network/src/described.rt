@@ -1,18 +1,19 @@
 //! Reads descriptions that may omit sorts and the budget, and may have negative arguments and start tokens.
 ghost use Rattle.std.specs.Prelude.{◌≡◌, ◌≤◌, ◌+◌, false, true, IfOk, IfErr, IfSome, IsUtf8, length, map};
 ghost use Rattle.kpn_sketch.specs.declared.sketch.Delayed.{Delayed as DelayedV};
-ghost use Rattle.kpn_sketch.specs.Description.{DescribesDelayed, delayed_of};
-ghost use Rattle.kpn_front.specs.Loading.{ConsumesAtMost, LoadsChanged, longest, without_text};
+ghost use Rattle.kpn_front.specs.Loading.{ConsumesAtMost, longest, without_text};
 ghost use Rattle.hox_network.specs.Budgets.{with_greatest_budget};
 ghost use Rattle.hox_network.specs.Copies.{with_copies};
 ghost use Rattle.hox_network.specs.Delays.{with_delays};
-ghost use Rattle.hox_network.specs.Meant.{as_meant};
+ghost use Rattle.hox_network.specs.Formulas.{IsWrittenOut};
+ghost use Rattle.hox_network.specs.Meant.{IsSketchOf, LoadsMeant, as_meant};
 ghost use Rattle.hox_network.specs.Ports.{by_ports, channel_by_ports};
 ghost use Rattle.hox_network.specs.Signs.{with_signs};
 
 use crate::budget::with_greatest_budget;
 use crate::copies::with_copies;
 use crate::delays::with_delays;
+use crate::formulas::with_formulas;
 use crate::signs::with_signs;
 use crate::sorts::sort_by_ports;
 use kpn_front::{Refused, Source, read_text};
@@ -20,17 +21,17 @@ use kpn_model::{Kinds, Listed};
 use kpn_net::{ChannelSketch, Check, Delayed, Net, NetFault, Sketch, read_delayed};
 use std::alloc::{AllocError, Global};
 
-/// Reads a description to its end, and makes its network. A channel gets the sort of its two ports if they
-/// agree, whatever the description says. A process with a negative first argument gets the kind `KIND,
-/// signed` if that exists and takes the arguments: each argument -1 - n becomes n, and one more argument
-/// counts how many of the first two are negative. A negative start token is read as two's complement. A channel with a
-/// `delay` holds so many zeros first, or `false`, and has room for all that it holds at first. If several
-/// channels leave one output, copies stand between: each channel gets every token. Without a stated budget, the
-/// network gets the greatest of its version. Reads at most 1,048,577 bytes.
+/// Reads a description to its end, and makes its network. A channel gets the sort of its two ports if they agree,
+/// whatever the description says. A process whose kind is a formula gets the card that means it. A process with a
+/// negative first argument gets the kind `KIND, signed` if that exists and takes the arguments: each argument -1 - n
+/// becomes n, and one more argument counts how many of the first two are negative. A negative start token is read as
+/// two's complement. A channel with a `delay` holds so many zeros first, or `false`, and has room for all that it holds
+/// at first. If several channels leave one output, copies stand between: each channel gets every token. Without a
+/// stated budget, the network gets the greatest of its version. Reads at most 1,048,577 bytes.
 ///
 /// Errors: those of `kpn_front::load_or_refuse`, with the text.
 pub fn load_by_ports<K: Kinds, S: Source>(alloc: Global, source: &mut S) -> Result<Net<K>, Refused>
-    ensures loads { S.has_failed source.old ≡ false → IfSome (S.remaining source.old) (λ text. LoadsChanged delayed_of (as_meant K.named K.signature text) K.named K.signature (S.has_failed source.new) text (without_text result)) }
+    ensures loads { S.has_failed source.old ≡ false → IfSome (S.remaining source.old) (λ text. LoadsMeant K.named K.signature (S.has_failed source.new) text (without_text result)) }
     ensures failed { S.has_failed source.old ≡ false → S.has_failed source.new ≡ true → without_text result ≡ Err NetFault.Input }
     ensures taken { ConsumesAtMost (longest + 1) (S.remaining source.old) (S.remaining source.new) }
 {
@@ -49,7 +50,7 @@ pub fn load_by_ports<K: Kinds, S: Source>(alloc: Global, source: &mut S) -> Resu
 
 fn net_of_text<K: Kinds>(alloc: Global, text: &[u8]) -> Result<Net<K>, NetFault>
     requires { length text.now ≤ longest }
-    ensures { LoadsChanged delayed_of (as_meant K.named K.signature text.now) K.named K.signature false text.now result }
+    ensures { LoadsMeant K.named K.signature false text.now result }
 {
     let described = read_delayed(alloc, text)?;
     let meant = as_meant::<K>(alloc, text, described)?;
@@ -58,10 +59,13 @@ fn net_of_text<K: Kinds>(alloc: Global, text: &[u8]) -> Result<Net<K>, NetFault>
 
 /// Returns the sketch of a text as `load_by_ports` completes it; `None` if the text describes none, or out of memory.
 pub fn sketch_by_ports<K: Kinds>(alloc: Global, text: &[u8]) -> Option<Sketch>
-    ensures { IfSome result (λ sketch. (described : DelayedV) × DescribesDelayed text.now described × (sketch ≡ as_meant K.named K.signature text.now described)) }
+    ensures { IfSome result (IsSketchOf K.named K.signature text.now) }
 {
-    match read_delayed(alloc, text) {
-        Ok(described) => as_meant::<K>(alloc, text, described).ok(),
+    let Ok(described) = read_delayed(alloc, text) else {
+        return None;
+    };
+    match as_meant::<K>(alloc, text, described) {
+        Ok(meant) => Some(meant),
         Err(_) => None,
     }
 }
@@ -69,13 +73,23 @@ pub fn sketch_by_ports<K: Kinds>(alloc: Global, text: &[u8]) -> Option<Sketch>
 /// Completes the sketch of a text. Errors: out of memory.
 fn as_meant<K: Kinds>(alloc: Global, text: &[u8], described: Delayed) -> Result<Sketch, NetFault>
     requires { IsUtf8 text.now }
-    ensures ok { IfOk result (λ meant. meant ≡ as_meant K.named K.signature text.now described) }
+    ensures ok { IfOk result (λ meant. (written : DelayedV) × IsWrittenOut described written × (meant ≡ as_meant K.named K.signature text.now written)) }
     ensures memory { IfErr result (λ e. e ≡ NetFault.Memory) }
 {
-    match written_out::<K>(alloc, text, described) {
+    match completed::<K>(alloc, text, described) {
         Ok(written) => sorted_by_ports::<K>(alloc, written),
         Err(_) => Err(NetFault::Memory),
     }
+}
+
+/// Writes the formulas as cards, and all but the sorts out.
+fn completed<K: Kinds>(alloc: Global, text: &[u8], described: Delayed) -> Result<Sketch, AllocError>
+    requires { IsUtf8 text.now }
+    ensures { IfOk result (λ sketch. (written : DelayedV) × IsWrittenOut described written × (sketch ≡ with_copies K.named K.signature (with_delays K.named K.signature written.delays (with_signs K.named K.signature (with_greatest_budget text.now written.sketch))))) }
+{
+    let Delayed { sketch, delays } = described;
+    let sketch = with_formulas(alloc, sketch)?;
+    written_out::<K>(alloc, text, Delayed { sketch, delays })
 }
 
 /// Sets the default budget, the signed kinds and start tokens and the delays, and adds the copies.

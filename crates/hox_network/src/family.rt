@@ -1,10 +1,11 @@
 //! The kinds that a description may use.
 use kpn_compute::Both;
+use kpn_formula::Formulas;
 use kpn_signals::Signals;
 use kpn_standard::Standard;
 
-/// The standard kinds, and the kinds for signals.
-pub type AllKinds = Both<Standard, Signals>;
+/// The standard kinds, the kinds for signals, and formulas.
+pub type AllKinds = Both<Both<Standard, Signals>, Formulas>;
 
 /// The names of all kinds, as a message lists them.
 pub const KINDS: &str =

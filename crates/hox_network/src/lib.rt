@@ -7,6 +7,7 @@ mod copies;
 mod delays;
 mod described;
 mod family;
+mod formulas;
 mod names;
 mod parts;
 mod preparing;

@@ -1,2 +1,3 @@
 mod Looks
+mod Opens
 mod Owned

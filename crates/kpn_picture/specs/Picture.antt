@@ -1,5 +1,5 @@
 -- The text of a picture, in the language of Graphviz.
-use Rattle.std.specs.Prelude.{◌≢◌, All, ℕ, ◌+◌, ◌/◌, ◌==◌, nat_lt, nat_le, ◌&&◌, ◌||◌, zero, suc, Bool, true, false, not, if◌then◌else◌, codes, decimal, List, [], ◌++◌, length, slice_get, Option, Some, None}
+use Rattle.std.specs.Prelude.{◌≢◌, All, ℕ, ◌+◌, ◌/◌, ◌==◌, nat_lt, nat_le, ◌&&◌, ◌||◌, zero, suc, Bool, true, false, not, if◌then◌else◌, codes, decimal, List, [], ◌∷◌, ◌++◌, length, map, take, slice_get, slice_index_or, Option, Some, None}
 use Rattle.std.specs.List.{count_by}
 use Rattle.std.specs.Option.{option_map_or}
 use Rattle.std.specs.Str.{bytes_eq}
@@ -105,6 +105,19 @@ link_part true true = codes ", arrowhead=none, minlen=0"
 abbrev pub kind_text : (ℕ → List ℕ × ℕ) → Card → List ℕ
 kind_text title card = let t = title card.kind in t.0 ++ argument_part t.1 card 0 ++ argument_part t.1 card 1 ++ argument_part t.1 card 2
 
+-- a byte of a title, as it is drawn: a blank, unless it is printable ASCII and no quote and no backslash
+abbrev pub drawn_byte : ℕ → ℕ
+drawn_byte b = if nat_lt b 32 || (nat_lt 126 b || (b == 34 || b == 92)) then 32 else b
+
+-- a title, as it is drawn: if it has more than 40 bytes, the first 37 and `...`
+abbrev pub title_text : List ℕ → List ℕ
+title_text title = if nat_lt 40 (length title) then map drawn_byte (take 37 title) ++ codes "..." else map drawn_byte title
+
+-- what stands in a box below the name: the title of the process, or if that is empty, its kind
+abbrev pub box_title : (ℕ → List ℕ × ℕ) → Card → List ℕ → List ℕ
+box_title title card [] = kind_text title card
+box_title title card (b ∷ bs) = title_text (b ∷ bs)
+
 -- a row has eight processes, in order; a channel stays in a row if both its ends are in it
 abbrev pub stays : Channel → Bool
 stays l = l.writer / 8 == l.reader / 8
@@ -141,14 +154,14 @@ module _ (net : Network) where
     abbrev pub is_point : ℕ → Bool
     is_point p = is_copy (title (card_of net p).kind).0 && names_channel p
 
-    -- process p, as a box: its name, its kind and its place, if known
-    abbrev pub box_line : List Place → ℕ → List ℕ
-    box_line places p =
-        box_opening (process_name net p) ++ kind_text title (card_of net p) ++ option_map_or place_label (slice_get places p) []
+    -- process p, as a box: its name, its title or its kind, and its place, if known
+    abbrev pub box_line : List (List ℕ) → List Place → ℕ → List ℕ
+    box_line titles places p =
+        box_opening (process_name net p) ++ box_title title (card_of net p) (slice_index_or titles p []) ++ option_map_or place_label (slice_get places p) []
         ++ closing (process_look (is_on_cycle net places p) (slice_get places p))
 
-    abbrev pub node_line : List Place → ℕ → List ℕ
-    node_line places p = if is_point p then point_line (process_name net p) (process_look (is_on_cycle net places p) (slice_get places p)) else box_line places p
+    abbrev pub node_line : List (List ℕ) → List Place → ℕ → List ℕ
+    node_line titles places p = if is_point p then point_line (process_name net p) (process_look (is_on_cycle net places p) (slice_get places p)) else box_line titles places p
 
   abbrev pub edge_opening : ℕ → List ℕ
   edge_opening c = let l = channel_of net c in arrow (process_name net l.writer) (process_name net l.reader)
@@ -203,8 +216,8 @@ module _ (net : Network) where
     abbrev pub edge_line : (ℕ → List ℕ × ℕ) → Bool → ℕ → List ℕ
     edge_line title rows c = formed_line (form_of title rows c) c
 
--- the picture of a network, or of a run that ended like this
-abbrev pub picture : Direction → (ℕ → List ℕ × ℕ) → Network → Option End → List Place → List ℕ → List (List Token) → List ℕ
-picture direction title net end places capacities rests =
-    head direction ++ caption net places end ++ lines_upto (node_line net title places) (length net.processes)
+-- the picture of a network, whose processes may have titles, or of a run that ended like this
+abbrev pub picture : Direction → List (List ℕ) → (ℕ → List ℕ × ℕ) → Network → Option End → List Place → List ℕ → List (List Token) → List ℕ
+picture direction titles title net end places capacities rests =
+    head direction ++ caption net places end ++ lines_upto (node_line net title titles places) (length net.processes)
     ++ lines_upto (edge_line net places capacities rests title (has_rows net)) (length net.channels) ++ codes "}\n"

@@ -1,11 +1,12 @@
 -- The titles of kinds: the name and the number of arguments of each.
-use Rattle.std.specs.Prelude.{◌≡◌, ◌⊎◌, ℕ, ◌/◌, ◌%◌, ◌==◌, nat_lt, if◌then◌else◌, List, [], Option, Some, None}
+use Rattle.std.specs.Prelude.{◌≡◌, ◌⊎◌, ℕ, ◌/◌, ◌%◌, ◌==◌, nat_lt, if◌then◌else◌, List, [], ◌++◌, codes, decimal, Option, Some, None}
 use Rattle.std.specs.Option.{option_map_or}
 use Rattle.kpn_model.specs.declared.kinds.Card.{Card}
 use Rattle.kpn_model.specs.declared.kinds.Signature.{Signature}
 use Rattle.kpn_standard.specs.Locals.{at}
 use Rattle.kpn_standard.specs.Table.{row_of, numbered}
 use Rattle.kpn_signals.specs.Table.{numbered as signal_numbered, called_by}
+use Rattle.kpn_formula.specs.Formulas.{kind_name}
 
 -- the title of each standard kind, by its number; empty for any other number
 abbrev pub standard_title : ℕ → List ℕ × ℕ
@@ -14,6 +15,15 @@ standard_title number = option_map_or (λ kind. ((row_of kind).name, (row_of kin
 -- the title of each kind for signals: its name in descriptions
 abbrev pub signals_title : ℕ → List ℕ × ℕ
 signals_title number = option_map_or called_by (signal_numbered number) ([], 0)
+
+-- the title of each formula
+abbrev pub formulas_title : ℕ → List ℕ × ℕ
+formulas_title number = (kind_name number, 3)
+
+-- the name of a kind: a word, with perhaps a number behind it
+abbrev pub name_of : List ℕ → Option ℕ → List ℕ
+name_of word None = word
+name_of word (Some n) = word ++ (codes " " ++ decimal n)
 
 -- the argument after those of a card's title: how many of these, from the first on, are below 0
 abbrev pub below : Card → ℕ → ℕ

@@ -8,9 +8,11 @@ mod nodes;
 mod picture;
 mod points;
 mod rows;
+mod styles;
 mod titles;
 
 pub use kpn_verdict::is_jammed;
 pub use looks::Direction;
 pub use picture::{Left, picture_of};
-pub use titles::{Titled, TitledFilters};
+pub use styles::Style;
+pub use titles::{Title, Titled, TitledFilters};

@@ -4,12 +4,13 @@ ghost use Rattle.std.specs.Option.{option_map_or};
 ghost use Rattle.kpn_model.specs.Network.{card_of};
 ghost use Rattle.kpn_model.specs.NamesAndLines.{lines_upto};
 ghost use Rattle.kpn_picture.specs.Titles.{below};
-ghost use Rattle.kpn_picture.specs.Picture.{argument_part, box_line, box_opening, kind_text, place_label, node_line};
+ghost use Rattle.kpn_picture.specs.Picture.{argument_part, box_line, box_opening, box_title, kind_text, place_label, node_line};
 
 use crate::looks::{process_look, push_closing};
 use crate::points::{is_point, push_point};
+use crate::styles::{push_title, title_at};
 use crate::titles::Titled;
-use kpn_model::{Card, Kinds, Place};
+use kpn_model::{Card, Kinds, Place, Text};
 use kpn_network::Net;
 use kpn_network::names::{channel_name, process_name};
 use kpn_verdict::{is_on_cycle, place_at};
@@ -44,12 +45,25 @@ fn push_kind<K: Titled>(out: &mut String, card: &Card) -> Result<(), AllocError>
     requires { IsSome (K.signature card.now) }
     ensures { OnOk result (string_bytes out.new ≡ string_bytes out.old ++ kind_text K.title card.now) }
 {
-    let (name, arity) = K::title(card);
-    out.push_str(name)?;
+    let title = K::title(card);
+    let arity = title.arguments;
+    title.push_name(out)?;
     push_argument(out, card, arity, 0)?;
     push_argument(out, card, arity, 1)?;
     push_argument(out, card, arity, 2)?;
     Ok(())
+}
+
+/// Appends a title, or if it is empty, the kind of a card.
+fn push_box_title<K: Titled>(out: &mut String, card: &Card, title: &str) -> Result<(), AllocError>
+    requires { IsSome (K.signature card.now) }
+    ensures { OnOk result (string_bytes out.new ≡ string_bytes out.old ++ box_title K.title card.now title.now) }
+{
+    if title.is_empty() {
+        push_kind::<K>(out, card)
+    } else {
+        push_title(out, title)
+    }
 }
 
 /// Appends the place in which a run left a process, if known.
@@ -93,14 +107,15 @@ fn push_opening(out: &mut String, name: &str) -> Result<(), AllocError>
 fn push_process<K: Titled>(
     out: &mut String,
     net: &Net<K>,
+    titles: &[Text],
     places: &[Place],
     p: usize,
 ) -> Result<(), AllocError>
     requires { p < length net.now.processes }
-    ensures { OnOk result (string_bytes out.new ≡ string_bytes out.old ++ node_line net.now K.title places.now p) }
+    ensures { OnOk result (string_bytes out.new ≡ string_bytes out.old ++ node_line net.now K.title titles.now places.now p) }
 {
     if !is_point(net, p) {
-        return push_box(out, net, places, p);
+        return push_box(out, net, titles, places, p);
     }
     let look = process_look(is_on_cycle(net, places, p), place_at(places, p));
     push_point(out, process_name(net, p), look)
@@ -109,17 +124,18 @@ fn push_process<K: Titled>(
 fn push_box<K: Titled>(
     out: &mut String,
     net: &Net<K>,
+    titles: &[Text],
     places: &[Place],
     p: usize,
 ) -> Result<(), AllocError>
     requires { p < length net.now.processes }
-    ensures { OnOk result (string_bytes out.new ≡ string_bytes out.old ++ box_line net.now K.title places.now p) }
+    ensures { OnOk result (string_bytes out.new ≡ string_bytes out.old ++ box_line net.now K.title titles.now places.now p) }
 {
     let name = process_name(net, p);
     let place = place_at(places, p);
     let look = process_look(is_on_cycle(net, places, p), place);
     push_opening(out, name)?;
-    push_kind::<K>(out, &card(net, p))?;
+    push_box_title::<K>(out, &card(net, p), title_at(titles, p))?;
     push_place(out, net, place)?;
     push_closing(out, look)?;
     Ok(())
@@ -128,12 +144,13 @@ fn push_box<K: Titled>(
 pub(crate) fn push_processes<K: Titled>(
     out: &mut String,
     net: &Net<K>,
+    titles: &[Text],
     places: &[Place],
 ) -> Result<(), AllocError>
-    ensures { OnOk result (string_bytes out.new ≡ string_bytes out.old ++ lines_upto (node_line net.now K.title places.now) (length net.now.processes)) }
+    ensures { OnOk result (string_bytes out.new ≡ string_bytes out.old ++ lines_upto (node_line net.now K.title titles.now places.now) (length net.now.processes)) }
 {
     for p in 0..net.processes() {
-        push_process(out, net, places, p)?;
+        push_process(out, net, titles, places, p)?;
     }
     Ok(())
 }

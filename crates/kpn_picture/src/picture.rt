@@ -1,13 +1,14 @@
 //! The picture of a network.
 ghost use Rattle.std.specs.Prelude.{All, ◌≡◌, ◌++◌, OnOk, IfOk, string_bytes};
-ghost use Rattle.kpn_picture.specs.Picture.{IsPlain, head, picture};
+ghost use Rattle.kpn_picture.specs.Picture.{IsPlain, head, picture, title_text};
 
 use crate::caption::push_caption;
 use crate::edges::push_channels;
 use crate::looks::{Direction, rankdir};
 use crate::nodes::push_processes;
+use crate::styles::Style;
 use crate::titles::Titled;
-use kpn_model::{End, Kinds, Listed, Place, Token};
+use kpn_model::{End, Kinds, Listed, Place, Text, Token};
 use kpn_network::Net;
 use std::alloc::{AllocError, Global};
 
@@ -35,6 +36,13 @@ fn names_are_plain<K: Kinds>(net: &Net<K>)
     net.processes();
 }
 
+/// Ghost lemma: titles, as they are drawn, need no escapes either.
+fn titles_are_plain(titles: &[Text])
+    ensures { All (λ title. IsPlain (title_text title)) titles.now }
+{
+    let _ = titles;
+}
+
 fn head(alloc: Global, direction: Direction) -> Result<String, AllocError>
     ensures { IfOk result (λ text. string_bytes text ≡ head direction) }
 {
@@ -45,7 +53,7 @@ fn head(alloc: Global, direction: Direction) -> Result<String, AllocError>
 }
 
 /// Returns the picture of a network as a directed graph in the language of Graphviz: boxes for processes,
-/// with name and kind, and edges for channels, from writer to reader, with name and whatever is unusual: a
+/// with name and kind or title, and edges for channels, from writer to reader, with name and whatever is unusual: a
 /// sort of flags, a capacity other than 1, tokens. A port has its number if the process has several. For a
 /// run that ended it shows the verdict and the end, each process's place, and each channel's growth and
 /// tokens; channels on a cycle of waits are red. A copy that has the name of the channel that it reads is a
@@ -54,23 +62,25 @@ fn head(alloc: Global, direction: Direction) -> Result<String, AllocError>
 /// A chain of more than 12 processes, where none has several inputs or outputs, is in rows of eight, in order
 /// (in columns, if the direction is down), if most channels stay within a row.
 ///
-/// Names are quoted without escapes, since they have no quote, backslash or line feed (`processes` and
-/// `channels`). Errors: out of memory.
+/// Names and titles are quoted without escapes, since as they are drawn they have no quote, backslash or line feed
+/// (`processes`, `channels` and `titles`). Errors: out of memory.
 pub fn picture_of<K: Titled>(
     alloc: Global,
     net: &Net<K>,
-    direction: Direction,
+    style: &Style<'_>,
     end: Option<End>,
     left: &Left<'_>,
 ) -> Result<String, AllocError>
     ensures processes { All (λ p. IsPlain p.name) net.now.processes }
     ensures channels { All (λ c. IsPlain c.name) net.now.channels }
-    ensures text { IfOk result (λ text. string_bytes text ≡ picture direction K.title net.now end left.now.places.now left.now.capacities.now left.now.rests.now) }
+    ensures titles { All (λ title. IsPlain (title_text title)) style.now.titles.now }
+    ensures text { IfOk result (λ text. string_bytes text ≡ picture style.now.direction style.now.titles.now K.title net.now end left.now.places.now left.now.capacities.now left.now.rests.now) }
 {
     names_are_plain(net);
-    let mut out = head(alloc, direction)?;
+    titles_are_plain(style.titles);
+    let mut out = head(alloc, style.direction)?;
     push_caption(&mut out, net, left.places, end)?;
-    push_processes(&mut out, net, left.places)?;
+    push_processes(&mut out, net, style.titles, left.places)?;
     push_channels(&mut out, net, left)?;
     out.push_str("}\n")?;
     Ok(out)

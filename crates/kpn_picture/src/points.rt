@@ -2,6 +2,7 @@
 ghost use Rattle.std.specs.Prelude.{◌≡◌, ◌<◌, ◌++◌, ◌&&◌, false, OnOk, length, string_bytes};
 ghost use Rattle.std.specs.Option.{option_map_or};
 ghost use Rattle.kpn_model.specs.Network.{channel_of};
+ghost use Rattle.kpn_picture.specs.Titles.{name_of};
 ghost use Rattle.kpn_picture.specs.Picture.{has_name_of, has_name_of_point, is_copy, is_point, names_channel, point_line, point_opening};
 
 use crate::looks::push_closing;
@@ -18,14 +19,17 @@ pub(crate) fn is_point<K: Titled>(net: &Net<K>, p: usize) -> bool
     requires { p < length net.now.processes }
     ensures { result ≡ is_point net.now K.title p }
 {
-    let (kind, _) = K::title(&card(net, p));
-    is_copy(kind) && names_channel(net, p)
+    let title = K::title(&card(net, p));
+    is_copy(title.word, title.number) && names_channel(net, p)
 }
 
-fn is_copy(kind: &str) -> bool
-    ensures { result ≡ is_copy kind.now }
+fn is_copy(word: &str, number: Option<u16>) -> bool
+    ensures { result ≡ is_copy (name_of word.now number) }
 {
-    kind == "copy" || kind == "copy_flags"
+    match number {
+        Some(_) => false,
+        None => word == "copy" || word == "copy_flags",
+    }
 }
 
 fn names_channel<K: Kinds>(net: &Net<K>, p: usize) -> bool

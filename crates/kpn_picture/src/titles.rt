@@ -1,21 +1,60 @@
 //! The titles of kinds.
-ghost use Rattle.std.specs.Prelude.{◌≡◌, Some, IsSome};
+ghost use Rattle.std.specs.Prelude.{◌≡◌, ◌++◌, ◌<◌, ◌^◌, Some, None, IsSome, OnOk, string_bytes};
+ghost use Rattle.kpn_formula.specs.Formulas.{kind_name};
 ghost use Rattle.kpn_standard.specs.Signatures.{named, signature};
 ghost use Rattle.kpn_standard.specs.Table.{row_of};
 ghost use Rattle.kpn_signals.specs.Signatures.{number_named, ports};
 ghost use Rattle.kpn_signals.specs.Table.{called_by};
-ghost use Rattle.kpn_picture.specs.Titles.{standard_title, signals_title, both_title, below};
+ghost use Rattle.kpn_picture.specs.Titles.{standard_title, signals_title, formulas_title, both_title, below, name_of};
 
 use kpn_compute::both::{is_first, own_card};
 use kpn_compute::{Both, Filtered, Filters};
+use kpn_formula::Formulas;
 use kpn_model::{Card, Kinds};
 use kpn_signals::{Signal, Signals};
 use kpn_standard::{Kind, Standard};
+use std::alloc::AllocError;
+use std::fmt::Write;
 
-/// A family with titles for its kinds: the name in descriptions, and the number of arguments.
+/// What a kind is called: its name in descriptions, which is a word with perhaps a number behind it, as in `formula 9`,
+/// and its number of arguments.
+#[derive(Clone, Copy, Debug, PartialEq, Eq)]
+pub struct Title {
+    pub word: &'static str,
+    pub number: Option<u16>,
+    pub arguments: usize,
+}
+
+impl Title {
+    /// Returns the title of a kind whose name is a word.
+    pub fn new(word: &'static str, arguments: usize) -> Title
+        ensures word { result.word.now ≡ word.now }
+        ensures number { result.number ≡ None }
+        ensures arguments { result.arguments ≡ arguments }
+    {
+        Title {
+            word,
+            number: None,
+            arguments,
+        }
+    }
+
+    /// Appends the name. Errors: out of memory.
+    pub fn push_name(&self, out: &mut String) -> Result<(), AllocError>
+        ensures { OnOk result (string_bytes out.new ≡ string_bytes out.old ++ name_of self.now.word.now self.now.number) }
+    {
+        let Title { word, number, .. } = *self;
+        match number {
+            None => out.push_str(word),
+            Some(number) => write!(out, "{word} {number}"),
+        }
+    }
+}
+
+/// A family with titles for its kinds.
 pub trait Titled: Kinds {
     ghost use Rattle.std.specs.Prelude.{◌≡◌, ℕ, List, IsSome};
-    ghost use Rattle.kpn_picture.specs.Titles.{MeansKind, below};
+    ghost use Rattle.kpn_picture.specs.Titles.{MeansKind, below, name_of};
 
     ghost title: { ℕ → List ℕ × ℕ };
 
@@ -23,10 +62,10 @@ pub trait Titled: Kinds {
     /// unless descriptions refuse it because two joined families have it, or the card has one more argument,
     /// n > 0: then its first n arguments are below 0, and the card has m for the argument -1 - m. The card
     /// must have a signature.
-    fn title(card: &Card) -> (&'static str, usize)
+    fn title(card: &Card) -> Title
         requires { IsSome (Self.signature card.now) }
-        ensures name { result.0.now ≡ (title card.now.kind).0 }
-        ensures arity { result.1 ≡ (title card.now.kind).1 }
+        ensures name { name_of result.word.now result.number ≡ (title card.now.kind).0 }
+        ensures arity { result.arguments ≡ (title card.now.kind).1 }
         ensures named { below card.now (title card.now.kind).1 ≡ 0 → MeansKind Self.signature (Self.named (title card.now.kind).0) (card.now.kind, (title card.now.kind).1) };
 }
 
@@ -48,8 +87,9 @@ pub trait TitledFilters: Filters {
 impl<F: TitledFilters> Titled for Filtered<F> {
     ghost title = { F.title };
 
-    fn title(card: &Card) -> (&'static str, usize) {
-        F::title(card)
+    fn title(card: &Card) -> Title {
+        let (name, arguments) = F::title(card);
+        Title::new(name, arguments)
     }
 }
 
@@ -57,10 +97,10 @@ impl Titled for Standard {
     ghost title = { standard_title };
 
     /// Returns the title of a card's kind. Its name means this kind.
-    fn title(card: &Card) -> (&'static str, usize)
+    fn title(card: &Card) -> Title
         requires { IsSome (signature card.now) }
-        ensures name { result.0.now ≡ (standard_title card.now.kind).0 }
-        ensures arity { result.1 ≡ (standard_title card.now.kind).1 }
+        ensures name { name_of result.word.now result.number ≡ (standard_title card.now.kind).0 }
+        ensures arity { result.arguments ≡ (standard_title card.now.kind).1 }
         ensures named { named (standard_title card.now.kind).0 ≡ Some (card.now.kind, (standard_title card.now.kind).1) }
     {
         let Some(kind) = Kind::numbered(card.kind) else {
@@ -70,13 +110,13 @@ impl Titled for Standard {
     }
 }
 
-fn title_of_kind(kind: Kind) -> (&'static str, usize)
-    ensures name { result.0.now ≡ (row_of kind).name }
-    ensures arity { result.1 ≡ (row_of kind).arguments }
-    ensures means { named result.0.now ≡ Some ((row_of kind).number, result.1) }
+fn title_of_kind(kind: Kind) -> Title
+    ensures name { name_of result.word.now result.number ≡ (row_of kind).name }
+    ensures arity { result.arguments ≡ (row_of kind).arguments }
+    ensures means { named (row_of kind).name ≡ Some ((row_of kind).number, (row_of kind).arguments) }
 {
     let row = kind.row();
-    (row.name, row.arguments)
+    Title::new(row.name, row.arguments)
 }
 
 impl Titled for Signals {
@@ -84,23 +124,44 @@ impl Titled for Signals {
 
     /// Returns the title of a card's kind. Its name means this kind if no argument is below 0; otherwise it
     /// is the name that descriptions use.
-    fn title(card: &Card) -> (&'static str, usize)
+    fn title(card: &Card) -> Title
         requires { IsSome (ports card.now) }
-        ensures name { result.0.now ≡ (signals_title card.now.kind).0 }
-        ensures arity { result.1 ≡ (signals_title card.now.kind).1 }
+        ensures name { name_of result.word.now result.number ≡ (signals_title card.now.kind).0 }
+        ensures arity { result.arguments ≡ (signals_title card.now.kind).1 }
         ensures named { below card.now (signals_title card.now.kind).1 ≡ 0 → number_named (signals_title card.now.kind).0 ≡ Some (card.now.kind, (signals_title card.now.kind).1) }
     {
         let Some(signal) = Signal::numbered(card.kind) else {
             unreachable!()
         };
-        signal.called_by()
+        let (name, arguments) = signal.called_by();
+        Title::new(name, arguments)
+    }
+}
+
+impl Titled for Formulas {
+    ghost title = { formulas_title };
+
+    fn title(card: &Card) -> Title {
+        formula_title(card.kind)
+    }
+}
+
+fn formula_title(number: u16) -> Title
+    ensures name { name_of result.word.now result.number ≡ kind_name number }
+    ensures arguments { result.arguments ≡ 3 }
+    ensures small { number < 2 ^ 16 }
+{
+    Title {
+        word: "formula",
+        number: Some(number),
+        arguments: 3,
     }
 }
 
 impl<A: Titled, B: Titled> Titled for Both<A, B> {
     ghost title = { both_title A.title B.title };
 
-    fn title(card: &Card) -> (&'static str, usize) {
+    fn title(card: &Card) -> Title {
         let own = own_card(*card);
         if is_first(*card) {
             A::title(&own)

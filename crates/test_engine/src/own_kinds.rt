@@ -3,7 +3,7 @@ use crate::checks::same;
 use example_signals::{Gains, MovingSums};
 use kpn_compute::{Both, Computes, Filtered, Filters};
 use kpn_net::{Act, Answer, Card, Check, Kinds, Net, Token, read_sketch};
-use kpn_picture::{Direction, Left, picture_of};
+use kpn_picture::{Direction, Left, Style, picture_of};
 use std::alloc::Global;
 use std::process::Abort;
 
@@ -107,7 +107,11 @@ fn both_are_drawn(rt: HostRuntime) {
         capacities: &[],
         rests: &[],
     };
-    let drawn = picture_of(rt.alloc(), &net, Direction::Right, None, &start);
+    let style = Style {
+        direction: Direction::Right,
+        titles: &[],
+    };
+    let drawn = picture_of(rt.alloc(), &net, &style, None, &start);
     let drawn = drawn.expect(&rt, "no memory");
     let worked = r#"
   "g" [label="g\ngain 3"];

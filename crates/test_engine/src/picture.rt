@@ -2,8 +2,8 @@
 use crate::checks::same;
 use kpn_compute::Both;
 use kpn_compute::both::{is_first, own_card};
-use kpn_net::{Card, Check, End, Kinds, Listed, Net, Place, Token, read_sketch};
-use kpn_picture::{Direction, Left, Titled, is_jammed, picture_of};
+use kpn_net::{Card, Check, End, Kinds, Listed, Net, Place, Text, Token, read_sketch};
+use kpn_picture::{Direction, Left, Style, Titled, is_jammed, picture_of};
 use kpn_signals::Signals;
 use kpn_standard::Standard;
 use std::alloc::Global;
@@ -16,23 +16,28 @@ const HEAD: &str = r##"digraph kpn {
   edge [color="#44546a", fontcolor="#44546a", fontname="Helvetica", fontsize=11, labelfontsize=9, labeldistance=1.5, labelangle=25];
 "##;
 
-/// Draws a network; of a run only its end is known.
+/// Draws a network whose processes have these titles; of a run only its end is known.
 fn picture_of_start<R: Abort>(
     rt: &R,
     alloc: Global,
     net: &Net<Standard>,
+    titles: &[Text],
     end: Option<End>,
 ) -> String {
+    let style = Style {
+        direction: Direction::Right,
+        titles,
+    };
     let start = Left {
         places: &[],
         capacities: &[],
         rests: &[],
     };
-    picture_of(alloc, net, Direction::Right, end, &start).expect(rt, "no memory")
+    picture_of(alloc, net, &style, end, &start).expect(rt, "no memory")
 }
 
 fn compare_start<R: Abort>(rt: &R, alloc: Global, net: &Net<Standard>, due: &str) {
-    let drawn = picture_of_start(rt, alloc, net, None);
+    let drawn = picture_of_start(rt, alloc, net, &[], None);
     same(rt, "picture", drawn.strip_prefix(HEAD), Some(due));
 }
 
@@ -144,7 +149,11 @@ fn compare_deadlock<R: Abort>(rt: &R, alloc: Global, net: &Net<Standard>, due: &
         rests: rests.as_slice(),
     };
     let end = Some(End::Deadlock);
-    let drawn = picture_of(alloc, net, Direction::Right, end, &left).expect(rt, "no memory");
+    let style = Style {
+        direction: Direction::Right,
+        titles: &[],
+    };
+    let drawn = picture_of(alloc, net, &style, end, &left).expect(rt, "no memory");
     same(rt, "picture", drawn.strip_prefix(HEAD), Some(due));
 }
 
@@ -163,6 +172,57 @@ fn draws_a_deadlock_with_its_cycle(rt: HostRuntime) {
 "##;
     let net = net_of(&rt, rt.alloc(), LOOP);
     compare_deadlock(&rt, rt.alloc(), &net, worked);
+    drop(net);
+}
+
+fn texts<R: Abort>(rt: &R, alloc: Global, texts: &[&str]) -> Vec<Text> {
+    let mut all = Vec::new(alloc);
+    for text in texts {
+        let text = String::from_str(alloc, text).expect(rt, "no memory");
+        all.push(Text::new(text)).expect(rt, "no memory");
+    }
+    all
+}
+
+fn compare_titled<R: Abort>(
+    rt: &R,
+    alloc: Global,
+    net: &Net<Standard>,
+    titles: &[&str],
+    due: &str,
+) {
+    let titles = texts(rt, alloc, titles);
+    let drawn = picture_of_start(rt, alloc, net, titles.as_slice(), None);
+    let first = drawn.strip_prefix(HEAD).unwrap_or("");
+    same(rt, "processes", first.starts_with(due), true);
+}
+
+/// The first process has an empty title, the last none.
+#[test]
+fn draws_titles_in_the_place_of_kinds(rt: HostRuntime) {
+    let titles = [
+        "",
+        "y = y + (in - y) / 8; z = y * 3; out = z",
+        "y = y + (in - y) / 16; z = y * 3; out = z",
+    ];
+    let worked = r#"  "src" [label="src\ncount 1 5"];
+  "ad" [label="ad\ny = y + (in - y) / 8; z = y * 3; out = z"];
+  "cp" [label="cp\ny = y + (in - y) / 16; z = y * 3; out..."];
+  "snk" [label="snk\nsink 5"];
+"#;
+    let net = net_of(&rt, rt.alloc(), LOOP);
+    compare_titled(&rt, rt.alloc(), &net, &titles, worked);
+    drop(net);
+}
+
+#[test]
+fn draws_blanks_for_what_is_not_plain_in_a_title(rt: HostRuntime) {
+    let titles = ["say \"out\"\n\\\u{e9}~\u{7f}\t!"];
+    let worked = r#"  "src" [label="src\nsay  out     ~  !"];
+  "snk" [label="snk\nsink 3"];
+"#;
+    let net = net_of(&rt, rt.alloc(), COUNTER);
+    compare_titled(&rt, rt.alloc(), &net, &titles, worked);
     drop(net);
 }
 
@@ -232,7 +292,7 @@ static ENDS: [(End, &str); 5] = [
 ];
 
 fn compare_end<R: Abort>(rt: &R, alloc: Global, net: &Net<Standard>, end: End, due: &str) {
-    let drawn = picture_of_start(rt, alloc, net, Some(end));
+    let drawn = picture_of_start(rt, alloc, net, &[], Some(end));
     let line = format!(in alloc; "\n  label=\"{due}\";\n").expect(rt, "no memory");
     same(rt, due, drawn.contains(line.as_str()), true);
 }
@@ -248,7 +308,11 @@ fn draws_each_end(rt: HostRuntime) {
 
 fn title_of<K: Titled>(card: Card) -> Option<(&'static str, usize)> {
     K::signature(&card)?;
-    Some(K::title(&card))
+    let title = K::title(&card);
+    if title.number.is_some() {
+        return None;
+    }
+    Some((title.word, title.arguments))
 }
 
 /// A kind's number in its own family and in `Both<Standard, Signals>` (2k for kind k of the first, 2k + 1 of

@@ -172,6 +172,58 @@ fn draws_what_a_file_says(rt: HostRuntime) {
     same(&rt, "samples", told.as_str(), whole.as_str());
 }
 
+/// Three words go to each of two formulas.
+const FORMULAS: &str = r#"version = 1
+process = [
+    { name = "src", kind = "count", args = [1, 3] },
+    { name = "mean", kind = "y(100) = y + (in - y) / 8; out = y + y / 2 - y / 4" },
+    { name = "high", kind = "out = in > 5" },
+    { name = "snk", kind = "drain" },
+    { name = "told", kind = "drain_flags" },
+]
+channel = [
+    { name = "x", from = "src", to = "mean" },
+    { name = "y", from = "src", to = "high" },
+    { name = "z", from = "mean", to = "snk" },
+    { name = "f", from = "high", to = "told" },
+]
+"#;
+
+const FORMULAS_LINES: &str = r#"  "src" [label="src\ncount 1 3"];
+  "mean" [label="mean\ny(100) = y + (in - y) / 8; out = y + ..."];
+  "high" [label="high\nout = in > 5"];
+  "snk" [label="snk\ndrain"];
+  "told" [label="told\ndrain_flags"];
+"#;
+
+/// Whether the picture of the formulas, or of a run of them, begins with these lines.
+fn shows_formulas<R: AllocGlobal + Wait + Clock + Threads + Abort + Sync>(
+    rt: &R,
+    is_run: bool,
+    lines: &str,
+) {
+    let request = plain(rt.alloc(), 1);
+    let told = told(rt, FORMULAS, &request, is_run);
+    let whole = drawn(rt, lines);
+    let begins = told.as_str().starts_with(whole.as_str());
+    same(rt, told.as_str(), begins, true);
+}
+
+#[test]
+fn draws_formulas_as_they_are_described(rt: HostRuntime) {
+    shows_formulas(&rt, false, FORMULAS_LINES);
+}
+
+const RUN_LINES: &str = r##"  label="ran dry (deadlock)";
+  "src" [label="src\ncount 1 3\nended", fillcolor="#e3e3e3"];
+  "mean" [label="mean\ny(100) = y + (in - y) / 8; out = y + ...\nwaits to read x"];
+"##;
+
+#[test]
+fn draws_formulas_after_a_run(rt: HostRuntime) {
+    shows_formulas(&rt, true, RUN_LINES);
+}
+
 fn asked_for<R: Abort>(rt: &R, alloc: Global, words: &[&str]) -> String {
     let read = read_words(alloc, words);
     read_text(alloc, &read).expect(rt, "no memory")

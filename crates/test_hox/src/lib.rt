@@ -1,4 +1,4 @@
-//! Tests of the program `hox`: `formats` of hox_format, `samples` and `fan_out` of hox_network, hox_run, hox_args and hox_expanded,
+//! Tests of the program `hox`: `formats` of hox_format, `samples`, `fan_out` and `formulas` of hox_network, hox_run, hox_args and hox_expanded,
 //! `drawing` of hox_draw and hox_args, `json` of hox_json, and `executing` of hox_files and hox_execute. They are one crate so
 //! that its dependencies are loaded once, and not in test_programs, whose dependencies are proved long
 //! before.
@@ -14,6 +14,8 @@ mod executing;
 mod fan_out;
 #[cfg(test)]
 mod formats;
+#[cfg(test)]
+mod formulas;
 #[cfg(test)]
 mod json;
 #[cfg(test)]

@@ -1,12 +1,26 @@
--- A network that was prepared is drawn; a description of which there is none is refused.
-use Rattle.kpn_model.specs.Network.{family_of}
-use Rattle.hox_draw.proofs.Served.{drawn_of, refused}
+-- A text that was read is drawn; a source that can't be read is refused.
+use Rattle.std.proofs.Common.{rules, IfSome, Err, refl}
+use Rattle.kpn_sketch.specs.Description.{delayed_of}
+use Rattle.kpn_front.specs.Loading.{LoadsChanged}
+use Rattle.hox_network.specs.Meant.{as_meant}
+use Rattle.hox_network.proofs.Meant.{known_unread}
+use Rattle.hox_draw.proofs.Served.{of_source}
 use Rattle.hox_draw.proofs.drawing.draw.Goals as goal
 
 pub returns-in-Ok-clause-served : goal.returns-in-Ok-clause-served
 returns-in-Ok-clause-served g c =
-    drawn_of (family_of g.K.Kinds.start g.K.Kinds.answer_of) g.K.Titled.title c.args.direction c.args.is_run c.args.request.now c.in-Ok.net _ c.in-Ok.ensures.served c.draw_prepared.ensures.drawn c.draw_prepared.ensures.fault
+    of_source (g.I.Source.remaining c.args.source.now) (g.I.Source.has_failed c.args.source.now) (g.I.Source.has_failed c.read_text.new.source) c.in-Ok.text.items c.draw_text.result
+    c.in-Ok.ensures.ok.1 (c.in-Ok.ensures.failed (λ e. cc)) (rw c.as_slice.ensures.value at c.draw_text.ensures)
 
 pub returns-in-Err-clause-served : goal.returns-in-Err-clause-served
 returns-in-Err-clause-served g c =
-    refused (family_of g.K.Kinds.start g.K.Kinds.answer_of) g.K.Titled.title c.args.direction c.args.is_run c.args.request.now c.in-Err.fault c.in-Err.ensures.served
+    let named = g.K.Kinds.named in
+    let signature = g.K.Kinds.signature in
+    let known = g.I.Source.remaining c.args.source.now in
+    let failed = g.I.Source.has_failed c.read_text.new.source in
+    record {
+      loaded = Err c.in-Err.fault;
+      loads = λ fresh. let read : IfSome known (λ text. LoadsChanged delayed_of (as_meant named signature text) named signature failed text (Err c.in-Err.fault)) = search rules in known_unread named signature failed known (Err c.in-Err.fault) read;
+      failed = search rules;
+      comes = refl;
+    }

@@ -10,7 +10,8 @@ pub returns : goal.returns
 returns g c =
     let kinds = family_of g.K.Kinds.start g.K.Kinds.answer_of in
     let title = g.K.Titled.title in
-    let direction = c.args.direction in
+    let direction = c.args.style.now.direction in
+    let titles = c.args.style.now.titles.now in
     let s = c.args.chronicle.now in
     let cause = c.in-Some.end in
     let detail = c.in_ok-report.report.detail in
@@ -29,6 +30,6 @@ returns g c =
       cause = cause;
       run = faithful.run;
       justified = justified;
-      text_is = drawn ∙ own_picture kinds title direction s.network cause s.history s.state detail own;
-      settled = λ has F N b final. drawn ∙ every_picture kinds title direction s.network cause detail every has F N b final;
+      text_is = drawn ∙ own_picture kinds title direction titles s.network cause s.history s.state detail own;
+      settled = λ has F N b final. drawn ∙ every_picture kinds title direction titles s.network cause detail every has F N b final;
     }

@@ -11,6 +11,7 @@ use Rattle.hox_execute.proofs.drawing.draw.Goals as goal
 pub returns-in-Ok-clause-done : goal.returns-in-Ok-clause-done
 returns-in-Ok-clause-done g c =
     let kinds = family_of g.K.Kinds.start g.K.Kinds.answer_of in
+    let named = g.K.Kinds.named in
     let title = g.K.Titled.title in
     let request = c.in_ok-asked.asked.request in
     let picture = c.in-Ok.picture in
@@ -20,8 +21,8 @@ returns-in-Ok-clause-done g c =
       picture = string_bytes picture;
       comes = record {
         is_asked = c.in_ok-asked.ensures.ok;
-        serves = file_serves_on (g.S.FileSystem.contents c.args.files.now) g.K.Kinds.named g.K.Kinds.signature c.args.wanted.file.now (GivesPicture kinds title c.args.direction c.args.is_run request)
-            (GivesDrawing kinds title c.args.direction c.args.is_run request) (Ok picture) (Ok (string_bytes picture)) (drawn_text kinds title c.args.direction c.args.is_run request picture) c.in-Ok.ensures;
+        serves = file_serves_on (g.S.FileSystem.contents c.args.files.now) named g.K.Kinds.signature c.args.wanted.file.now (GivesPicture kinds named title c.args.direction c.args.is_run request)
+            (GivesDrawing kinds named title c.args.direction c.args.is_run request) (Ok picture) (Ok (string_bytes picture)) (drawn_text kinds named title c.args.direction c.args.is_run request picture) c.in-Ok.ensures;
       };
       writes = rw text at c.write_text.ensures;
     }

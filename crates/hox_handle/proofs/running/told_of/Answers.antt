@@ -1,6 +1,6 @@
 -- The report of the run's history.
 use Rattle.std.proofs.Common.{string_bytes, sym}
-use Rattle.hox_handle.specs.Running.{all_kinds}
+use Rattle.hox_handle.specs.Sessions.{all_kinds}
 use Rattle.hox_handle.proofs.RunReports.{justified, text_told, every_told}
 use Rattle.hox_handle.proofs.running.told_of.Goals as goal
 

@@ -1,7 +1,8 @@
--- The result is what the text describes, with the sorts of the ports.
-use Rattle.std.proofs.Common.{false, refl}
+-- The result is what the text describes, with its formulas as cards and the sorts of the ports.
+use Rattle.std.proofs.Common.{rules, false, refl}
 use Rattle.kpn_sketch.specs.Description.{delayed_of}
 use Rattle.kpn_front.proofs.Loaded.{loads_from}
+use Rattle.hox_network.proofs.Meant.{loads_unread, writes_this}
 use Rattle.hox_network.specs.Meant.{as_meant}
 use Rattle.hox_network.proofs.described.net_of_text.Goals as goal
 
@@ -9,5 +10,19 @@ pub returns : goal.returns
 returns g c =
     let named = g.K.Kinds.named in
     let signature = g.K.Kinds.signature in
-    loads_from named signature delayed_of (as_meant named signature c.args.text.now) false c.args.text.now c.in_ok-described.described c.check.result
-    (refl, c.requires) c.in_ok-described.ensures.ok (rw c.in_ok-meant.ensures.ok at c.check.ensures.ok) (rw c.in_ok-meant.ensures.ok at c.check.ensures.fault)
+    let text = c.args.text.now in
+    let described = c.in_ok-described.described in
+    let describes = c.in_ok-described.ensures.ok in
+    let written = c.in_ok-meant.ensures.ok in
+    record {
+      write = λ _. written.0;
+      out = writes_this text described written.0 describes written.1;
+      loads = loads_from named signature delayed_of (λ _. as_meant named signature text written.0) false text described c.check.result
+          (refl, c.requires) describes (rw written.2 at c.check.ensures.ok) (rw written.2 at c.check.ensures.fault);
+    }
+
+pub returns-in_err-described : goal.returns-in_err-described
+returns-in_err-described g c = loads_unread g.K.Kinds.named g.K.Kinds.signature false c.args.text.now c.from_residual.result (search rules)
+
+pub returns-in_err-meant : goal.returns-in_err-meant
+returns-in_err-meant g c = loads_unread g.K.Kinds.named g.K.Kinds.signature false c.args.text.now c.from_residual-in_err-meant.result (search rules)
