@@ -8,3 +8,5 @@ pub mod Words
 pub mod LawfulFormulas
 pub mod Names
 pub mod Runs
+pub mod Held
+pub mod Stacks

@@ -1,9 +1,9 @@
 -- Where the instructions of a card stand.
-use Rattle.std.specs.Prelude.{◌≡◌, ℕ, ◌+◌, ◌<◌, false, List, [], ◌∷◌, drop}
+use Rattle.std.specs.Prelude.{◌≡◌, ℕ, ◌+◌, ◌/◌, ◌%◌, ◌^◌, ◌<◌, false, List, [], ◌∷◌, length, drop, get_or}
 use Rattle.kpn_model.specs.declared.kinds.Card.{Card}
 use Rattle.kpn_formula.specs.declared.instruction.Instruction.{Instruction}
 use Rattle.kpn_formula.specs.declared.instruction.Instruction.TheVariants.{Shift, Load, Store}
-use Rattle.kpn_formula.specs.Cards.{digits, instruction, operands, instructions, is_end, before_end, after_end}
+use Rattle.kpn_formula.specs.Cards.{digit, digits, instruction, operands, instructions, is_end, before_end, after_end}
 
 -- the instructions from digit p on
 abbrev pub program_at : Card → ℕ → List Instruction
@@ -30,3 +30,21 @@ pub record StandsAt (card : Card) (p code : ℕ) : Type 0 where
 pub record EndsAt (card : Card) (p : ℕ) : Type 0 where
   pub before : before_end (program_at card p) ≡ []
   pub after : after_end (program_at card p) ≡ program_at card (p + 1)
+
+-- the digits of a number, the first least, are those of a card from digit p on
+pub record HoldsFrom (card : Card) (p n : ℕ) : Type 0 where
+  pub arguments : length card.args ≡ 3
+  pub digits : (k : ℕ) → digit card (p + k) ≡ n / 32 ^ k % 32
+
+abbrev pub first_three : ℕ → List ℕ
+first_three n = n % 32 ∷ n / 32 % 32 ∷ n / 1024 % 32 ∷ []
+
+-- the digits behind the operands of a code
+abbrev pub behind_operands : ℕ → ℕ → ℕ
+behind_operands code n = get_or (n ∷ n / 32 ∷ n / 32768 ∷ n / 32768 ∷ n / 32 ∷ []) code n
+
+-- the first digit is this code, and no End
+pub record IsCode (n code : ℕ) : Type 0 where
+  pub is : code ≡ n % 32
+  pub small : code < 32
+  pub goes_on : code ≡ 0 → ⊥

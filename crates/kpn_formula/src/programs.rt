@@ -72,19 +72,22 @@ fn values(counts: Counts, kept: &Local, inputs: &[u64; 3]) -> [u64; 6]
     requires outputs { counts.outputs < 4 }
     ensures { result ≡ values counts.states counts.outputs counts.inputs kept.now inputs.now }
 {
-    [
-        value(counts, kept, inputs, 0),
-        value(counts, kept, inputs, 1),
-        value(counts, kept, inputs, 2),
-        value(counts, kept, inputs, 3),
-        value(counts, kept, inputs, 4),
-        value(counts, kept, inputs, 5),
-    ]
+    let kept = states_in(counts.states, kept);
+    let read = outputs_in(0, counts.inputs, inputs);
+    match counts.states + counts.outputs {
+        0 => [read[0], read[1], read[2], 0, 0, 0],
+        1 => [kept[0], read[0], read[1], read[2], 0, 0],
+        2 => [kept[0], kept[1], read[0], read[1], read[2], 0],
+        3 => [kept[0], kept[1], kept[2], read[0], read[1], read[2]],
+        4 => [kept[0], kept[1], kept[2], kept[3], read[0], read[1]],
+        5 => [kept[0], kept[1], kept[2], kept[3], 0, read[0]],
+        _ => [kept[0], kept[1], kept[2], kept[3], 0, 0],
+    }
 }
 
-/// Returns what is kept of values.
+/// Returns the words of the states, which stand first, and zeros behind them.
 #[inline(always)]
-fn states_in(states: usize, values: &[u64; 6]) -> Local
+fn states_in(states: usize, values: &[u64]) -> Local
     ensures { result ≡ states_in states values.now }
 {
     [
@@ -95,9 +98,9 @@ fn states_in(states: usize, values: &[u64; 6]) -> Local
     ]
 }
 
-/// Returns what is written of values.
+/// Returns the `outputs` words behind those of the states, and zeros behind them.
 #[inline(always)]
-fn outputs_in(states: usize, outputs: usize, values: &[u64; 6]) -> [u64; 3]
+fn outputs_in(states: usize, outputs: usize, values: &[u64]) -> [u64; 3]
     requires { states < 8 }
     ensures { result ≡ outputs_in states outputs values.now }
 {
@@ -133,12 +136,18 @@ impl Rounds for Programs {
         Some(Signature { ins, outs })
     }
 
+    #[inline(always)]
+    fn known_ports(card: &Card) -> Signature {
+        let Shape { ins, outs, .. } = Shape::of_kind(card.kind);
+        Signature { ins, outs }
+    }
+
     fn start(card: &Card) -> Local {
         let values = values_after(card, opening_start(card), [0; 6]);
         states_in(counts_of(card.kind).states, &values)
     }
 
-    #[inline(always)]
+    #[inline(never)]
     fn step(card: Card, kept: Local, inputs: [u64; 3]) -> (Local, [u64; 3]) {
         let counts = counts_of(card.kind);
         let values = values_after(&card, 0, values(counts, &kept, &inputs));

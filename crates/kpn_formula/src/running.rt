@@ -1,13 +1,14 @@
 //! Runs the programs of cards.
-ghost use Rattle.std.specs.Prelude.{◌≡◌, ◌<◌, ◌≤◌, ◌+◌, [], length, drop};
+ghost use Rattle.std.specs.Prelude.{◌≡◌, ◌<◌, ◌≤◌, ◌+◌, ℕ, [], length, drop, take};
+ghost use Rattle.kpn_standard.specs.Locals.{at};
 ghost use Rattle.kpn_formula.specs.Programs.{Working, executed, instead, last, chosen, values_after};
-ghost use Rattle.kpn_formula.specs.Cards.{after_end, before_end, digits, instruction, operands};
+ghost use Rattle.kpn_formula.specs.Cards.{after_end, before_end, instruction};
 ghost use Rattle.kpn_formula.specs.declared.instruction.Instruction.TheVariants.{Store};
-ghost use Rattle.kpn_formula.specs.Reading.{IsReadable, program_at};
+ghost use Rattle.kpn_formula.specs.Reading.{IsReadable, behind_operands, first_three, program_at};
 
 use crate::instruction::{Instruction, Operation};
 use crate::operations::applied;
-use crate::reading::{code_at, long_operand, operand, operands};
+use crate::reading::{Cursor, code_at, operands};
 use kpn_model::Card;
 use kpn_signals::words;
 use std::marker::Model;
@@ -15,20 +16,21 @@ use std::marker::Model;
 /// How many words a stack holds: no program pushes more, since it has 36 digits.
 const ROOM: usize = 40;
 
-/// The values of a program that runs, and its stack, which grows downwards: its last word is `words[top]`.
+/// The values of a program that runs, and its stack, which grows downwards: its last word is `words[top]`. The three
+/// words behind its room stay 0, and are read where nothing was pushed.
 #[derive(Drop)]
 struct Workspace {
     values: [u64; 6],
-    words: [u64; ROOM],
+    words: [u64; ROOM + 3],
     top: usize,
 }
 
 impl Model for Workspace {
     ghost Value = { Working };
 
-    ghost view = { λ w. record { values = w.values; stack = drop w.top w.words } };
+    ghost view = { λ w. record { values = w.values; stack = drop w.top (take 40 w.words) } };
 
-    ghost invariant = { λ w. w.top ≤ 40 };
+    ghost invariant = { λ w. (w.top ≤ 40) × ((k : ℕ) → 40 ≤ k → at w.words k ≡ 0) };
 }
 
 impl Workspace {
@@ -38,7 +40,7 @@ impl Workspace {
     {
         Workspace {
             values,
-            words: [0; ROOM],
+            words: [0; ROOM + 3],
             top: ROOM,
         }
     }
@@ -49,8 +51,16 @@ impl Workspace {
         requires { k < 3 }
         ensures { result ≡ last self.now k }
     {
-        let place = self.top + k;
-        if place < ROOM { self.words[place] } else { 0 }
+        self.words[self.top + k]
+    }
+
+    #[inline(always)]
+    fn push(&mut self, word: u64)
+        requires { length self.old.stack < 40 }
+        ensures { self.new ≡ instead 0 word self.old }
+    {
+        self.top -= 1;
+        self.words[self.top] = word;
     }
 
     /// Takes `count` words from the stack, or all, and pushes one.
@@ -83,35 +93,34 @@ impl Workspace {
         let last = self.last(0);
         match instruction {
             Instruction::End => {}
-            Instruction::Push(word) => self.put(0, word),
+            Instruction::Push(word) => self.push(word),
             Instruction::Times(word) => self.put(1, last.wrapping_mul(word)),
             Instruction::Shift(bits) => self.put(1, words::right_shift(bits, last)),
             Instruction::Not => self.put(1, u64::from(last == 0)),
             Instruction::Abs => self.put(1, last.cast_signed().unsigned_abs()),
             Instruction::Choose => self.put(3, chosen(self.last(2), self.last(1), last)),
             Instruction::Apply(op) => self.put(2, applied(op, self.last(1), last)),
-            Instruction::Load(place) => self.put(0, self.values[usize::from(place)]),
+            Instruction::Load(place) => self.push(self.values[usize::from(place)]),
             Instruction::Store(place) => self.store(place),
         }
     }
 }
 
 impl Workspace {
-    /// Executes the instruction of a code, whose operands begin at `place`. Returns how many digits they take.
+    /// Executes the instruction of a code, whose operands it takes.
     #[inline(always)]
-    fn perform(&mut self, code: u64, card: &Card, place: usize) -> usize
+    fn perform(&mut self, code: u64, cursor: &mut Cursor)
         requires code { code < 32 }
-        requires place { place < 64 }
         requires room { length self.old.stack < 40 }
-        ensures is { self.new ≡ executed (instruction code (drop place (digits card.now))) self.old }
-        ensures operands { result ≡ operands code }
+        ensures is { self.new ≡ executed (instruction code (first_three cursor.old)) self.old }
+        ensures rest { cursor.new ≡ behind_operands code cursor.old }
     {
         match code {
             0 => self.execute(Instruction::End),
-            1 => self.execute(Instruction::Push(operand(card, place))),
-            2 => self.execute(Instruction::Push(long_operand(card, place))),
-            3 => self.execute(Instruction::Times(long_operand(card, place))),
-            4 => self.execute(Instruction::Shift(operand(card, place))),
+            1 => self.execute(Instruction::Push(cursor.operand())),
+            2 => self.execute(Instruction::Push(cursor.long_operand())),
+            3 => self.execute(Instruction::Times(cursor.long_operand())),
+            4 => self.execute(Instruction::Shift(cursor.operand())),
             5 => self.execute(Instruction::Not),
             6 => self.execute(Instruction::Abs),
             7 => self.execute(Instruction::Choose),
@@ -140,7 +149,6 @@ impl Workspace {
             30 => self.execute(Instruction::Store(3)),
             _ => self.execute(Instruction::Store(4)),
         }
-        operands(code)
     }
 }
 
@@ -157,9 +165,9 @@ pub(crate) fn values_after(card: &Card, start: usize, values: [u64; 6]) -> [u64;
     ensures { result ≡ values_after (before_end (program_at card.now start)) values }
 {
     let mut space = Workspace::new(values);
-    let mut place = start;
-    while let Some(code) = code_at(card, place) {
-        place += 1 + space.perform(code, card, place + 1);
+    let mut cursor = Cursor::at(card, start);
+    while let Some(code) = cursor.code() {
+        space.perform(code, &mut cursor);
     }
     space.values
 }

@@ -49,11 +49,19 @@ impl Shape {
         if !is_kind(kind) {
             return None;
         }
-        Some(Shape {
+        Some(Shape::of_kind(kind))
+    }
+
+    /// Returns the shape that the digits of a kind's number say.
+    #[inline(always)]
+    pub(crate) fn of_kind(kind: u16) -> Shape
+        ensures { result ≡ shape_numbered kind }
+    {
+        Shape {
             states: (kind % 8) as u8,
             ins: ports_of(kind / 8 % 4, kind / 128 % 8),
             outs: ports_of(kind / 32 % 4, kind / 1024 % 8),
-        })
+        }
     }
 }
 

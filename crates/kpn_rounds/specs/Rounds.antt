@@ -86,6 +86,10 @@ module _ (s : Signature) where
   write_answer kept [] = record { next = with_outputs kept []; act = if nat_lt 0 (count s.ins) then Read 0 else Stop }
   write_answer kept (w ∷ ws) = let k = count s.outs - length (w ∷ ws) in record { next = with_outputs kept ws; act = Write k (token_at s.outs k w) }
 
+  -- reads the next input
+  abbrev pub reading : List ℕ → List ℕ → Answer
+  reading kept inputs = record { next = with_inputs kept inputs; act = Read (length inputs) }
+
   module _ (step : List ℕ → List ℕ → List ℕ × List ℕ) where
     -- what is kept after a step, and the outputs
     abbrev pub made_by : List ℕ → List ℕ → List ℕ × List ℕ
@@ -95,7 +99,7 @@ module _ (s : Signature) where
     abbrev pub read_answer : List ℕ → List ℕ → Answer
     read_answer kept inputs =
         if nat_lt (length inputs) (count s.ins)
-        then record { next = with_inputs kept inputs; act = Read (length inputs) }
+        then reading kept inputs
         else let made = made_by kept inputs in write_answer made.0 made.1
 
     abbrev pub next_answer : List ℕ → List ℕ → List ℕ → Answer

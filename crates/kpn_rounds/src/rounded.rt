@@ -1,12 +1,13 @@
 //! The family of kinds that go in rounds.
+ghost use Rattle.std.specs.Prelude.{◌≡◌};
 ghost use Rattle.kpn_rounds.specs.Rounds.{rounds_family, RoundsAdmit};
 
 use crate::numbers::Numbers;
 use crate::ports::count;
 use crate::rounds::Rounds;
-use crate::turns::{Turn, carried, next_turn, with_inputs, writes};
+use crate::turns::{Turn, carried, next_turn, reading, with_inputs, writes};
 use kpn_compute::Computes;
-use kpn_model::{Act, Answer, Card, Kinds, Local, Signature, Token};
+use kpn_model::{Answer, Card, Kinds, Local, Signature, Token};
 use std::marker::PhantomData;
 
 /// The family of the kinds of `R`. In each round a process reads its inputs, steps, and writes its outputs, each in the
@@ -55,18 +56,27 @@ impl<R: Rounds> Kinds for Rounded<R> {
 impl<R: Rounds> Computes for Rounded<R> {
     #[inline(always)]
     fn answer(card: Card, local: Local, last: Option<Token>) -> Answer {
-        let Some(ports) = R::ports(&card) else {
-            return Answer {
-                next: local,
-                act: Act::Stop,
-            };
-        };
+        let ports = R::known_ports(&card);
         match next_turn(&ports, local, last) {
-            Turn::Acts(answer) => answer,
+            Turn::Reads(inputs) => reading(&ports, local, inputs),
+            Turn::Writes(left) => writes(&ports, local, left),
             Turn::Steps(inputs) => {
-                let (kept, made) = R::step(card, carried(&ports, local), inputs.words());
+                let (kept, made) = R::step(copied(card), carried(&ports, local), inputs.words());
                 writes(&ports, kept, Numbers::first(count(&ports.outs), made))
             }
         }
+    }
+}
+
+/// Copies a card word by word. A call gets its arguments as places in memory, and so a step that is a call gets those of
+/// the copy: the card itself, which other families read too, stays in registers.
+#[inline(always)]
+fn copied(card: Card) -> Card
+    ensures { result ≡ card }
+{
+    let [first, second, third] = card.args;
+    Card {
+        kind: card.kind,
+        args: [first, second, third],
     }
 }

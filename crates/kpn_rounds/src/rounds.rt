@@ -1,5 +1,5 @@
 //! Kinds that go in rounds.
-ghost use Rattle.std.specs.Prelude.{◌≡◌, IsSome, IfSome, IsTrue};
+ghost use Rattle.std.specs.Prelude.{◌≡◌, IsSome, IfSome, IsTrue, Some};
 
 use kpn_model::{Card, Kinds, Local, Signature};
 
@@ -34,6 +34,11 @@ pub trait Rounds: Send + Sync {
         ensures is { result ≡ ports card.now }
         ensures filled { IfSome result (λ s. IsTrue (is_filled s.ins) × IsTrue (is_filled s.outs)) }
         ensures some { IfSome result HasPort };
+
+    /// Returns the ports of a card that has some. A run asks for them at each act.
+    fn known_ports(card: &Card) -> Signature
+        requires { IsSome (ports card.now) }
+        ensures { Some result ≡ ports card.now };
 
     /// Returns the words that a process of a card keeps at first. The card must have ports.
     fn start(card: &Card) -> Local

@@ -1,9 +1,9 @@
 //! What a process holds within a round, and what it then does.
-ghost use Rattle.std.specs.Prelude.{◌≡◌, ◌<◌, ◌≤◌, ◌++◌, true, false, [], length};
+ghost use Rattle.std.specs.Prelude.{◌≡◌, ◌<◌, ◌≤◌, ◌++◌, ℕ, List, true, false, [], length};
 ghost use Rattle.kpn_rounds.specs.Steps.{count};
 ghost use Rattle.kpn_rounds.specs.Numbers.{list_of};
-ghost use Rattle.kpn_rounds.specs.Rounds.{latest, carried, packed, with_inputs, with_outputs, held, left_in, write_answer};
-ghost use Rattle.kpn_rounds.specs.Turns.{IsReadTurn, IsTurn};
+ghost use Rattle.kpn_rounds.specs.Rounds.{latest, carried, packed, with_inputs, with_outputs, held, left_in, reading, write_answer};
+ghost use Rattle.kpn_rounds.specs.Turns.{IsReadTurn, IsTurn, LeavesFew};
 
 use crate::numbers::Numbers;
 use crate::ports::{count, is_narrow, is_wide, number, token_at};
@@ -24,10 +24,12 @@ pub const ONE_LEFT: u64 = 3;
 /// The last word while the last two of three outputs are left.
 pub const TWO_LEFT: u64 = 4;
 
-/// What a process does next: an act, or it has its inputs and steps.
+/// What a process does next: it reads the next input after these, writes the first of these outputs, or steps with these
+/// inputs. (An answer in it would go through memory, with all its padding.)
 #[derive(Clone, Copy)]
 pub(crate) enum Turn {
-    Acts(Answer),
+    Reads(Numbers),
+    Writes(Numbers),
     Steps(Numbers),
 }
 
@@ -36,10 +38,10 @@ pub(crate) enum Turn {
 pub(crate) fn carried(ports: &Signature, kept: Local) -> Local
     ensures { result ≡ carried ports.now kept }
 {
+    let [first, second, third, fourth] = kept;
     if is_narrow(ports) {
-        return kept;
+        return [first, second, third, fourth];
     }
-    let [first, second, _, _] = kept;
     if is_wide(ports) {
         [first, 0, 0, 0]
     } else {
@@ -161,17 +163,26 @@ pub(crate) fn writes(ports: &Signature, kept: Local, outputs: Numbers) -> Answer
     }
 }
 
+/// Returns the answer that reads the next input after these.
+#[inline(always)]
+pub(crate) fn reading(ports: &Signature, kept: Local, inputs: Numbers) -> Answer
+    ensures { result ≡ reading ports.now kept (list_of inputs) }
+{
+    Answer {
+        next: with_inputs(ports, kept, inputs),
+        act: Act::Read(inputs.count()),
+    }
+}
+
 /// Returns the turn of a process that read these inputs in this round: it reads the next one, or steps.
 #[inline(always)]
-fn reads(ports: &Signature, kept: Local, inputs: Numbers) -> Turn
-    ensures { IsReadTurn ports.now kept (list_of inputs) result }
+fn reads(ports: &Signature, inputs: Numbers) -> Turn
+    ensures is { (kept : List ℕ) → IsReadTurn ports.now kept (list_of inputs) result }
+    ensures few { LeavesFew ports.now result }
 {
     let port = inputs.count();
     if port < count(&ports.ins) {
-        Turn::Acts(Answer {
-            next: with_inputs(ports, kept, inputs),
-            act: Act::Read(port),
-        })
+        Turn::Reads(inputs)
     } else {
         Turn::Steps(inputs)
     }
@@ -182,13 +193,14 @@ fn reads(ports: &Signature, kept: Local, inputs: Numbers) -> Turn
 #[inline(always)]
 pub(crate) fn next_turn(ports: &Signature, local: Local, last: Option<Token>) -> Turn
     requires { length (left_in ports.now local) ≤ count ports.now.outs }
-    ensures { IsTurn ports.now local last result }
+    ensures is { IsTurn ports.now local last result }
+    ensures few { LeavesFew ports.now result }
 {
     if is_narrow(ports) {
-        return reads(ports, local, latest(last));
+        return reads(ports, latest(last));
     }
     match left_in(local) {
-        Numbers::None => reads(ports, local, inputs_of(local, last)),
-        left => Turn::Acts(writes(ports, local, left)),
+        Numbers::None => reads(ports, inputs_of(local, last)),
+        left => Turn::Writes(left),
     }
 }

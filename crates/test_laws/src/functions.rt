@@ -56,11 +56,15 @@ impl Rounds for Tallies {
         None
     }
 
-    fn ports(_card: &Card) -> Option<Signature> {
-        Some(Signature {
+    fn ports(card: &Card) -> Option<Signature> {
+        Some(Self::known_ports(card))
+    }
+
+    fn known_ports(_card: &Card) -> Signature {
+        Signature {
             ins: [Some(Sort::Words), Some(Sort::Flags), Some(Sort::Words)],
             outs: [Some(Sort::Words), Some(Sort::Flags), None],
-        })
+        }
     }
 
     fn start(_card: &Card) -> Local {
