@@ -131,7 +131,7 @@ more gives 0, to the right the sign. Comparisons, !, && and || give 1 or 0, and 
 An input that is used just as a condition carries flags, and so does an output whose values are all true or false;
 all else carries words.
 A card has room for 36 digits: a name, an operator or an assignment takes one, a number up to 31 two, others up to
-16383 four (one less where a number is a factor or a shift to the right).
+16383 four (one less where a number is a factor or a shift to the right; a division by 2, 4, 8 .. takes two in all).
 ";
 
 /// Pictures, for the help of `draw`.

@@ -1,5 +1,5 @@
 //! Code that computes an expression.
-ghost use Rattle.std.specs.Prelude.{◌≡◌, ℕ, ◌<◌, ◌||◌, ◌&&◌, not, ◌++◌, ◌∷◌, [], Bool, false, get_or, List, IfOk, IfSome};
+ghost use Rattle.std.specs.Prelude.{◌≡◌, ℕ, ◌<◌, ◌^◌, ◌||◌, ◌&&◌, not, ◌++◌, ◌∷◌, [], Bool, false, get_or, List, IfOk, IfSome};
 ghost use Rattle.kpn_formula.specs.Operations.{applied};
 ghost use Rattle.kpn_formula.specs.declared.instruction.Operation.{Operation};
 ghost use Rattle.hox_formula.specs.Expressions.{Expression, Constant, Place, Negation, Size, Both, Either, Applied, Choice, is_place, uses};
@@ -190,6 +190,19 @@ fn followed_two(
     followed(code, tail)
 }
 
+/// Returns by how many bits to shift in place of a division by this number, if it is a power of two below 2^32. Both
+/// round down.
+fn halvings(number: u64) -> Option<u64>
+    ensures { IfSome result (λ bits. (bits < 32) × (number ≡ 2 ^ bits)) }
+{
+    let bits = number.trailing_zeros();
+    if bits < 32 && number == 1 << bits {
+        Some(u64::from(bits))
+    } else {
+        None
+    }
+}
+
 /// Returns the one instruction that stands for an operation with this second operand, if there is one.
 fn short(operation: Operation, second: Option<u64>) -> Option<Instruction>
     ensures { IfSome result (StandsFor operation second) }
@@ -199,6 +212,10 @@ fn short(operation: Operation, second: Option<u64>) -> Option<Instruction>
             Instruction::Times(number),
         ),
         (Operation::ShiftRight, Some(number)) if number < 32 => Some(Instruction::Shift(number)),
+        (Operation::Divide, Some(number)) => match halvings(number) {
+            Some(bits) => Some(Instruction::Shift(bits)),
+            None => None,
+        },
         _ => None,
     }
 }

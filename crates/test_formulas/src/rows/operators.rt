@@ -4,7 +4,7 @@ use crate::rows::Row;
 use crate::rows::Stream::{Flags, Words};
 
 /// What each operator makes.
-pub(crate) static OPERATORS: [Row; 31] = [
+pub(crate) static OPERATORS: [Row; 33] = [
     Row {
         text: "out = in + in1",
         ins: &[
@@ -36,6 +36,32 @@ pub(crate) static OPERATORS: [Row; 31] = [
             Words(&[2, 2, -2, -2, 0, 0, -1, 1, i64::MIN]),
         ],
         outs: &[Words(&[3, -4, -4, 3, 0, 0, i64::MIN, i64::MIN, -1])],
+    },
+    Row {
+        text: "out = in / 8; out1 = in / 1; out2 = in / 2147483648",
+        ins: &[Words(&[7, -7, 8, -8, -9, 0, i64::MIN, i64::MAX])],
+        outs: &[
+            Words(&[
+                0,
+                -1,
+                1,
+                -1,
+                -2,
+                0,
+                -1152921504606846976,
+                1152921504606846975,
+            ]),
+            Words(&[7, -7, 8, -8, -9, 0, i64::MIN, i64::MAX]),
+            Words(&[0, -1, 0, -1, -1, 0, -4294967296, 4294967295]),
+        ],
+    },
+    Row {
+        text: "out = in / 12; out1 = in / 4294967296",
+        ins: &[Words(&[7, -7, 8, -8, -9, 0, i64::MIN, i64::MAX])],
+        outs: &[
+            Words(&[0, -1, 0, -1, -1, 0, -768614336404564651, 768614336404564650]),
+            Words(&[0, -1, 0, -1, -1, 0, -2147483648, 2147483647]),
+        ],
     },
     Row {
         text: "out = in % in1",
