@@ -15,8 +15,6 @@ mod opening;
 mod report;
 mod running;
 mod session;
-#[cfg(test)]
-mod tests;
 mod texts;
 mod words;
 

@@ -1,7 +1,7 @@
-//! Tests of the program `hox`: `formats` of hox_format, `samples`, `fan_out` and `formulas` of hox_network, hox_run, hox_args and hox_expanded,
-//! `drawing` of hox_draw and hox_args, `json` of hox_json, and `executing` of hox_files and hox_execute. They are one crate so
-//! that its dependencies are loaded once, and not in test_programs, whose dependencies are proved long
-//! before.
+//! Tests of the program `hox`: `formats` of hox_format, `samples`, `fan_out` and `formulas` of hox_network, hox_run,
+//! hox_args and hox_expanded, `drawing` of hox_draw and hox_args, `json` of hox_json, `executing` of hox_files and
+//! hox_execute, and `sessions` of hox_handle. They are one crate so that its dependencies are loaded once, and not in
+//! test_programs, whose dependencies are proved long before.
 #![tactic(auto)]
 
 #[cfg(test)]
@@ -20,3 +20,5 @@ mod formulas;
 mod json;
 #[cfg(test)]
 mod samples;
+#[cfg(test)]
+mod sessions;
