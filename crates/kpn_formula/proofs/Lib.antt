@@ -10,3 +10,4 @@ pub mod Names
 pub mod Runs
 pub mod Held
 pub mod Stacks
+pub mod Zeros

@@ -3,6 +3,7 @@ use Rattle.std.specs.Prelude.{ℕ, ◌+◌, ◌-◌, nat_lt, ◌&&◌, if◌then
 use Rattle.std.specs.Str.Parse.{digits_value}
 use Rattle.kpn_model.specs.declared.kinds.Card.{Card}
 use Rattle.kpn_standard.specs.Locals.{at}
+use Rattle.kpn_formula.specs.declared.instruction.Instruction.{Instruction}
 use Rattle.kpn_formula.specs.Cards.{round_of, opening_of}
 use Rattle.kpn_formula.specs.Shapes.{is_kind, states_of, inputs_of, outputs_of}
 use Rattle.kpn_formula.specs.Programs.{values_after}
@@ -36,6 +37,12 @@ round_values card kept inputs = values_after (round_of card) (values (states_of 
 
 abbrev pub step : Card → List ℕ → List ℕ → List ℕ × List ℕ
 step card kept inputs = (states_in (states_of card.kind) (round_values card kept inputs), outputs_in (states_of card.kind) (outputs_of card.kind) (round_values card kept inputs))
+
+-- what a program keeps and makes of words that were kept and read
+abbrev pub results : Card → List Instruction → List ℕ → List ℕ → List ℕ × List ℕ
+results card program kept inputs =
+    let after = values_after program (values (states_of card.kind) (outputs_of card.kind) (inputs_of card.kind) kept inputs) in
+    (states_in (states_of card.kind) after, outputs_in (states_of card.kind) (outputs_of card.kind) after)
 
 abbrev pub kind_name : ℕ → List ℕ
 kind_name n = codes "formula " ++ decimal n

@@ -1,6 +1,8 @@
 //! The kinds of formulas.
 ghost use Rattle.std.specs.Prelude.{◌≡◌, ◌≢◌, ◌<◌, ◌^◌, ℕ, decimal, MatchOption};
-ghost use Rattle.kpn_formula.specs.Formulas.{kind_name, named, outputs_in, part, start, states_in, step, value, values};
+ghost use Rattle.kpn_formula.specs.Cards.{before_end};
+ghost use Rattle.kpn_formula.specs.Formulas.{kind_name, named, outputs_in, part, results, start, states_in, step, value, values};
+ghost use Rattle.kpn_formula.specs.Reading.{program_at};
 ghost use Rattle.kpn_formula.specs.Shapes.{inputs_of, outputs_of, ports, states_of};
 
 use crate::running::{opening_start, values_after};
@@ -142,21 +144,32 @@ impl Rounds for Programs {
         Signature { ins, outs }
     }
 
+    #[tactic(auto, using(crate::proofs::Zeros::values_of_zeros))]
     fn start(card: &Card) -> Local {
-        let values = values_after(card, opening_start(card), [0; 6]);
-        states_in(counts_of(card.kind).states, &values)
+        let (kept, _) = computed(card, opening_start(card), [0; 4], [0; 3]);
+        kept
     }
 
-    #[inline(never)]
+    #[inline(always)]
     fn step(card: Card, kept: Local, inputs: [u64; 3]) -> (Local, [u64; 3]) {
-        let counts = counts_of(card.kind);
-        let values = values_after(&card, 0, values(counts, &kept, &inputs));
-        let kept = states_in(counts.states, &values);
-        (kept, outputs_in(counts.states, counts.outputs, &values))
+        computed(&card, 0, kept, inputs)
     }
 
     #[tactic(auto, using(crate::proofs::LawfulFormulas::formulas_lawful))]
     fn lawful() {}
+}
+
+/// Runs the program of a card that begins at digit `start`, and returns the states and the outputs after it.
+///
+/// It alone runs programs, so that the compiler makes one loop of it, with the instructions in place.
+#[inline(never)]
+fn computed(card: &Card, start: usize, kept: Local, inputs: [u64; 3]) -> (Local, [u64; 3])
+    ensures { result ≡ results card.now (before_end (program_at card.now start)) kept inputs }
+{
+    let counts = counts_of(card.kind);
+    let values = values_after(card, start, values(counts, &kept, &inputs));
+    let kept = states_in(counts.states, &values);
+    (kept, outputs_in(counts.states, counts.outputs, &values))
 }
 
 /// Returns the number in a name of a kind; `None` if no kind has this name.
