@@ -265,7 +265,7 @@ static OTHERS: [Row; 26] = [
         81,
         0,
         Wrong::TooManyDigits(1),
-        "program 1 digits too long",
+        "too many digits in the program, by 1",
     ),
     ("x.y = 1", 1, 1, Wrong::StrangeCharacter, STRANGE),
 ];
@@ -280,9 +280,9 @@ const LARGE: &str = "number of 2^64 or more";
 
 const GAP: &str = "inputs and outputs are used from 0 on, without gaps";
 
-const ONE_WORD: &str = "1 states, inputs and outputs too many";
+const ONE_WORD: &str = "too many states, inputs and outputs, by 1";
 
-const TWO_WORDS: &str = "2 states, inputs and outputs too many";
+const TWO_WORDS: &str = "too many states, inputs and outputs, by 2";
 
 const GIVEN_TWICE: &str = "a start value stands in the first assignment alone";
 
