@@ -5,7 +5,7 @@ use std::alloc::Global;
 
 /// A command. `Word`: a number to feed into the first input. `Feed`: `feed NAME TOKEN..`. `Drain`: `drain
 /// NAME MOST`. `Advance`: `advance MOST`. `End`: `end NAME` ends an input.
-pub enum Line<'a> {
+pub enum Command<'a> {
     Word(u64),
     Feed(&'a str),
     Drain(&'a str, usize),
@@ -14,14 +14,14 @@ pub enum Line<'a> {
 }
 
 /// Parses a line; returns `None` if it is no command.
-pub fn read_line(line: &str) -> Option<Line<'_>> {
+pub fn read_line(line: &str) -> Option<Command<'_>> {
     match line.parse::<u64>() {
-        Ok(word) => Some(Line::Word(word)),
+        Ok(word) => Some(Command::Word(word)),
         Err(_) => read_words(line),
     }
 }
 
-fn read_words(line: &str) -> Option<Line<'_>> {
+fn read_words(line: &str) -> Option<Command<'_>> {
     let mut words = line.split_whitespace();
     match (words.next(), words.next()) {
         (Some(verb), Some(first)) => said(verb, first, words.next().unwrap_or("")),
@@ -29,12 +29,12 @@ fn read_words(line: &str) -> Option<Line<'_>> {
     }
 }
 
-fn said<'a>(verb: &str, first: &'a str, rest: &str) -> Option<Line<'a>> {
+fn said<'a>(verb: &str, first: &'a str, rest: &str) -> Option<Command<'a>> {
     match verb {
-        "feed" => Some(Line::Feed(first)),
-        "drain" => Some(Line::Drain(first, rest.parse().ok()?)),
-        "advance" => Some(Line::Advance(first.parse().ok()?)),
-        "end" => Some(Line::End(first)),
+        "feed" => Some(Command::Feed(first)),
+        "drain" => Some(Command::Drain(first, rest.parse().ok()?)),
+        "advance" => Some(Command::Advance(first.parse().ok()?)),
+        "end" => Some(Command::End(first)),
         _ => None,
     }
 }

@@ -1,6 +1,6 @@
 //! A flow between two streams of lines.
 use crate::ending::{write_pause, write_places};
-use crate::lines::{Line, read_line, read_tokens};
+use crate::lines::{Command, read_line, read_tokens};
 use anyhow::{Result, bail};
 use kpn_body::Standard;
 use kpn_compute::CardBody;
@@ -43,11 +43,11 @@ impl Piped {
     /// Executes a line, and writes its output.
     pub fn obey<W: Write>(&mut self, alloc: Global, line: &str, sink: &mut W) -> Result<()> {
         match read_line(line) {
-            Some(Line::Word(word)) => self.pour(word, sink),
-            Some(Line::Feed(name)) => self.feed_and_tell(alloc, name, line, sink),
-            Some(Line::Drain(name, most)) => self.drain(name, most, sink),
-            Some(Line::Advance(most)) => self.advance(most, sink),
-            Some(Line::End(name)) => self.end(name),
+            Some(Command::Word(word)) => self.pour(word, sink),
+            Some(Command::Feed(name)) => self.feed_and_tell(alloc, name, line, sink),
+            Some(Command::Drain(name, most)) => self.drain(name, most, sink),
+            Some(Command::Advance(most)) => self.advance(most, sink),
+            Some(Command::End(name)) => self.end(name),
             None => bail!("a line that says nothing: {line}"),
         }
     }

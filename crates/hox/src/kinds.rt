@@ -2,7 +2,7 @@
 use crate::hints::{line_of, near_kind, say_near};
 use crate::messages::say_kinds;
 use hox_args::{FORMULA, KINDS, KindsChoice};
-use kpn_front::Status;
+use kpn_front::ExitStatus;
 
 /// Prints the table of kinds, what it says of one, or how formulas are written, and returns the exit status.
 pub(crate) fn list_kinds<R: Print + Eprint>(rt: &R, choice: &KindsChoice<'_>) -> u8 {
@@ -15,8 +15,8 @@ pub(crate) fn list_kinds<R: Print + Eprint>(rt: &R, choice: &KindsChoice<'_>) ->
         },
     };
     match printed {
-        Ok(()) => Status::Success.code(),
-        Err(_) => Status::WriteFailed.code(),
+        Ok(()) => ExitStatus::Success.code(),
+        Err(_) => ExitStatus::WriteFailed.code(),
     }
 }
 
@@ -33,5 +33,5 @@ fn say_no_kind<R: Eprint>(rt: &R, name: &str) -> u8 {
             say_kinds(rt);
         }
     }
-    Status::WrongArguments.code()
+    ExitStatus::WrongArguments.code()
 }

@@ -29,7 +29,7 @@ use crate::screen::Screen;
 use crate::stream_line::StreamLine;
 use crate::streaming::stream_asked;
 use crate::unused::say_unused_by_run;
-use hox_execute::{Outcome, Stop, execute};
+use hox_execute::{Executed, Stop, execute};
 use hox_network::AllKinds;
 use std::alloc::AllocError;
 use std::io::IsTerminal;
@@ -89,20 +89,20 @@ fn status_after<R: Files + Input + Print + Eprint + AllocGlobal + Clock>(
     rt: &R,
     screen: &Screen<'_, R>,
     host: &Host<'_, R>,
-    outcome: &Result<Outcome<'_>, Stop<'_>>,
+    outcome: &Result<Executed<'_>, Stop<'_>>,
 ) -> u8 {
     match outcome {
-        Ok(Outcome::Exits(status)) => status.code(),
-        Ok(Outcome::Ran(ran)) => {
+        Ok(Executed::Exits(status)) => status.code(),
+        Ok(Executed::Ran(ran)) => {
             say_files(screen, ran.outputs.as_slice(), ran.files.as_slice());
             say_unused_by_run(screen, &ran);
             ran.status.code()
         }
-        Ok(Outcome::Streams(stream)) => {
+        Ok(Executed::Streams(stream)) => {
             let line = StreamLine::new(rt, stream, screen.is_terminal());
             stream_asked(screen, host, stream, &line)
         }
-        Ok(Outcome::Lists(kinds)) => list_kinds(screen, kinds),
+        Ok(Executed::Lists(kinds)) => list_kinds(screen, kinds),
         Err(stop) => say_stop(screen, stop),
     }
 }

@@ -4,9 +4,9 @@ use crate::formulas::is_unknown_name;
 use crate::hints::{has_wrong_delay, is_said, say_message, say_no_channel, wants_version_2};
 use crate::reasons::{say_clash, say_undescribed, say_unread};
 use hox_args::WordsFault;
-use hox_execute::{Asked, Refusal, Stop};
+use hox_execute::{Asked, RefusedRequest, Stop};
 use hox_network::{AllKinds, Fault, FileFault, KINDS, PresetFault, Request, sketch_by_ports};
-use kpn_front::{Refused, Status};
+use kpn_front::{ExitStatus, Refused};
 use kpn_message::{message_of_delayed, messages_of_sketch};
 use kpn_model::limits::{CEILING, GREATEST_HIGH_BUDGET, HIGH_CEILING};
 use kpn_net::{NetFault, Sketch, read_delayed};
@@ -32,7 +32,7 @@ pub(crate) fn say_stop<R: Print + Eprint + AllocGlobal>(rt: &R, stop: &Stop<'_>)
 }
 
 /// Says why what is asked of the network of a description is not done.
-fn say_refusal<R: Eprint + AllocGlobal>(rt: &R, refusal: &Refusal<'_>) {
+fn say_refusal<R: Eprint + AllocGlobal>(rt: &R, refusal: &RefusedRequest<'_>) {
     if is_unread(&refusal.fault) {
         say_undescribed(rt, refusal.file, refusal.error);
     } else {
@@ -309,7 +309,7 @@ pub(crate) fn input_name(file: &str) -> &str {
 /// Says that memory was refused, and returns the exit status.
 pub(crate) fn say_no_memory<R: Eprint>(rt: &R) -> u8 {
     let _ = eprintln!(rt; "hox: out of memory");
-    Status::MemoryRefused.code()
+    ExitStatus::MemoryRefused.code()
 }
 
 /// Writes help to standard output, and a fault of the arguments to standard error.
@@ -321,6 +321,6 @@ pub(crate) fn say_words_refused<R: Print + Eprint>(rt: &R, fault: &WordsFault) -
     };
     match said {
         Ok(()) => fault.status().code(),
-        Err(_) => Status::WriteFailed.code(),
+        Err(_) => ExitStatus::WriteFailed.code(),
     }
 }

@@ -1,5 +1,5 @@
 //! How far a run has come, on one line of standard error.
-use hox_run::{Progress, SoFar};
+use hox_run::{ProgressReceiver, SoFar};
 use std::rt::Clock;
 use std::sync::atomic::{AtomicBool, AtomicU64, Ordering};
 use std::time::Instant;
@@ -55,7 +55,7 @@ impl<'a, R: Eprint> ProgressLine<'a, R> {
     }
 }
 
-impl<'a, R: Clock + Eprint + Sync> Progress for ProgressLine<'a, R> {
+impl<'a, R: Clock + Eprint + Sync> ProgressReceiver for ProgressLine<'a, R> {
     fn is_wanted(&self) -> bool {
         self.is_wanted
     }

@@ -4,7 +4,7 @@ use crate::messages::say_no_memory;
 use crate::reasons::{output_name, say_unwritten};
 use crate::taps::Failing;
 use hox_execute::Pair;
-use hox_stream::{MOST_AHEAD, Served, TableOutlet};
+use hox_stream::{EndedStream, MOST_AHEAD, TableOutlet};
 use kpn_compute::Computes;
 use kpn_front::{Sink, Source};
 use std::alloc::{AllocError, Global};
@@ -20,7 +20,7 @@ pub(crate) struct Written {
 /// What was written of each output, in order: files of one channel, and then the columns of those of several.
 pub(crate) fn all_written<F: Computes, I: Source, O: Sink>(
     alloc: Global,
-    served: &Served<F, I, O>,
+    served: &EndedStream<F, I, O>,
 ) -> Result<Vec<Written>, AllocError> {
     let mut written = Vec::new(alloc);
     for outlet in &served.outlets {
@@ -71,7 +71,7 @@ fn output_at<'a, 'b>(outputs: &'b [Pair<'a>], k: usize, place: usize) -> Option<
 
 /// The table among the files, of which this one has this number.
 fn table_at<F: Computes, I: Source, O: Sink>(
-    served: &Served<F, I, O>,
+    served: &EndedStream<F, I, O>,
     k: usize,
 ) -> Option<&TableOutlet<O>> {
     let place = k.checked_sub(served.outlets.len())?;
@@ -80,7 +80,7 @@ fn table_at<F: Computes, I: Source, O: Sink>(
 
 /// Why the file of this number could not be written.
 pub(crate) fn failure_at<F: Computes, I: Source, O: Sink + Failing>(
-    served: &Served<F, I, O>,
+    served: &EndedStream<F, I, O>,
     k: usize,
 ) -> Option<io::Error> {
     match served.outlets.as_slice().get(k) {
@@ -95,7 +95,7 @@ pub(crate) fn say_output_unwritten<
     F: Computes,
     I: Source,
     O: Sink + Failing,
->(rt: &R, outputs: &[Pair<'_>], served: &Served<F, I, O>, k: usize) {
+>(rt: &R, outputs: &[Pair<'_>], served: &EndedStream<F, I, O>, k: usize) {
     let Some(pair) = first_of(outputs, k) else {
         return;
     };
@@ -111,7 +111,7 @@ pub(crate) fn say_output_unwritten<
 pub(crate) fn say_token<R: Eprint, F: Computes, I: Source, O: Sink>(
     rt: &R,
     outputs: &[Pair<'_>],
-    served: &Served<F, I, O>,
+    served: &EndedStream<F, I, O>,
     k: usize,
 ) {
     if let (Some(pair), Some(outlet)) = (first_of(outputs, k), served.outlets.as_slice().get(k)) {
@@ -138,7 +138,7 @@ fn say_misfit_at<R: Eprint>(rt: &R, pair: Option<&Pair<'_>>, tokens: u64) {
 pub(crate) fn say_apart<R: Eprint, F: Computes, I: Source, O: Sink>(
     rt: &R,
     outputs: &[Pair<'_>],
-    served: &Served<F, I, O>,
+    served: &EndedStream<F, I, O>,
     k: usize,
 ) {
     let Some(table) = table_at(served, k) else {

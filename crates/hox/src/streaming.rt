@@ -8,10 +8,10 @@ use crate::screen::Screen;
 use crate::stream_line::StreamLine;
 use crate::told::say_told;
 use hox_args::StreamChoice;
-use hox_execute::{Ends, Pair, StreamStop, stream};
+use hox_execute::{Pair, StreamEnds, StreamStop, stream};
 use hox_network::AllKinds;
 use hox_stream::{NameFault, StreamFault};
-use kpn_front::{Refused, Status};
+use kpn_front::{ExitStatus, Refused};
 use kpn_model::Text;
 use kpn_net::NetFault;
 use std::io;
@@ -51,15 +51,15 @@ fn say_stream_stop<R: Print + Eprint + AllocGlobal>(rt: &R, stop: StreamStop<'_>
         } => say_fault(rt, &ends, channels.as_slice(), &fault),
         StreamStop::Unread { file, error } => {
             say_unreadable(rt, file, error);
-            Status::Refused.code()
+            ExitStatus::Refused.code()
         }
         StreamStop::Headless { file, fault } => {
             say_head(rt, file, fault);
-            Status::Refused.code()
+            ExitStatus::Refused.code()
         }
         StreamStop::Unwritten { file, error } => {
             say_unwritten(rt, file, error);
-            Status::WriteFailed.code()
+            ExitStatus::WriteFailed.code()
         }
     }
 }
@@ -69,7 +69,7 @@ fn say_output_named_twice<R: Eprint>(rt: &R) -> u8 {
     let _ = eprintln!(rt;
         "hox: standard output is named twice, but takes only one stream; use a file"
     );
-    Status::WrongArguments.code()
+    ExitStatus::WrongArguments.code()
 }
 
 /// Says why a description is refused, or could not be read for this reason, and returns the exit status.
@@ -85,18 +85,23 @@ fn say_description<R: Eprint + AllocGlobal>(
         say_refused(rt, file, refused);
     }
     match refused.fault {
-        NetFault::Memory => Status::MemoryRefused.code(),
-        _ => Status::Refused.code(),
+        NetFault::Memory => ExitStatus::MemoryRefused.code(),
+        _ => ExitStatus::Refused.code(),
     }
 }
 
 /// Says why the stream between these ends is not opened, in a network with these channels, and returns the exit
 /// status.
-fn say_fault<R: Eprint>(rt: &R, ends: &Ends<'_>, channels: &[Text], fault: &StreamFault) -> u8 {
+fn say_fault<R: Eprint>(
+    rt: &R,
+    ends: &StreamEnds<'_>,
+    channels: &[Text],
+    fault: &StreamFault,
+) -> u8 {
     match fault {
         StreamFault::Description(fault) => {
             let _ = eprintln!(rt; "hox: {fault}");
-            Status::Refused.code()
+            ExitStatus::Refused.code()
         }
         StreamFault::Input(fault) => {
             say_name_fault(rt, channels, ends.inputs.as_slice(), true, fault)
@@ -106,7 +111,7 @@ fn say_fault<R: Eprint>(rt: &R, ends: &Ends<'_>, channels: &[Text], fault: &Stre
         }
         StreamFault::Twice => {
             let _ = eprintln!(rt; "hox: a channel is named twice");
-            Status::WrongArguments.code()
+            ExitStatus::WrongArguments.code()
         }
         StreamFault::Memory => say_no_memory(rt),
     }
@@ -123,7 +128,7 @@ fn say_name_fault<R: Eprint>(
     match fault {
         NameFault::NoChannel(k) => {
             say_no_channel(rt, name_at(pairs, *k), channels);
-            Status::WrongArguments.code()
+            ExitStatus::WrongArguments.code()
         }
         NameFault::Busy(k, process) => {
             let (name, process) = (name_at(pairs, *k), process.as_str());
@@ -148,7 +153,7 @@ fn say_writer<R: Eprint>(rt: &R, channels: &[Text], name: &str, process: &str) -
     } else {
         eprintln!(rt; "make its kind input or input_flags")
     };
-    Status::WrongArguments.code()
+    ExitStatus::WrongArguments.code()
 }
 
 /// Says that a process reads the channel that should be drained, and returns the exit status.
@@ -156,7 +161,7 @@ fn say_reader<R: Eprint>(rt: &R, name: &str, process: &str) -> u8 {
     let _ = eprintln!(rt;
         "hox: --out {name}: process {process} reads that channel; let another channel lead from its output to a drain, drain_flags or sink, and name that"
     );
-    Status::WrongArguments.code()
+    ExitStatus::WrongArguments.code()
 }
 
 /// The name of the channel of the pair at this place.

@@ -7,13 +7,13 @@ use crate::sinks::{
 };
 use crate::taps::Failing;
 use crate::unused::say_unused_by_stream;
-use hox_execute::{Ends, Pair, Streamed};
-use hox_stream::{Finish, Inlet, LONGEST_RECORD, Refusal, Served};
+use hox_execute::{Pair, StreamEnds, Streamed};
+use hox_stream::{EndedStream, Inlet, LONGEST_RECORD, Refusal, StreamFinish};
 use kpn_body::Body;
 use kpn_compute::Computes;
 use kpn_flow::Flow;
 use kpn_flow_verdict::{Judged, judge};
-use kpn_front::{Sink, Source, Status};
+use kpn_front::{ExitStatus, Sink, Source};
 use kpn_model::{End, Verdict};
 use std::alloc::{AllocError, Global};
 use std::io;
@@ -28,7 +28,7 @@ pub(crate) fn say_told<
 >(rt: &R, streamed: &Streamed<'_, F, I, O>, is_quiet: bool) -> u8 {
     let (ends, served) = (&streamed.ends, &streamed.served);
     if is_reader_gone(served) {
-        return Status::WriteFailed.code();
+        return ExitStatus::WriteFailed.code();
     }
     match all_written(rt.alloc(), served) {
         Ok(written) => say_counted(rt, ends, served, written.as_slice(), is_quiet),
@@ -45,7 +45,7 @@ pub(crate) fn say_told<
 /// Says the verdict on how a stream left its network, unless it is not wanted, and returns the exit status.
 fn say_verdict<R: Eprint + AllocGlobal, F: Computes, I: Source, O: Sink>(
     rt: &R,
-    served: &Served<F, I, O>,
+    served: &EndedStream<F, I, O>,
     is_quiet: bool,
 ) -> u8 {
     match judged(rt.alloc(), &served.flow, served.finish) {
@@ -62,8 +62,8 @@ fn say_verdict<R: Eprint + AllocGlobal, F: Computes, I: Source, O: Sink>(
 /// Says what was read and written, unless it is not wanted; and for how many tokens the nearest that fits.
 fn say_counted<R: Eprint, F: Computes, I: Source, O: Sink>(
     rt: &R,
-    ends: &Ends<'_>,
-    served: &Served<F, I, O>,
+    ends: &StreamEnds<'_>,
+    served: &EndedStream<F, I, O>,
     written: &[Written],
     is_quiet: bool,
 ) {
@@ -76,8 +76,8 @@ fn say_counted<R: Eprint, F: Computes, I: Source, O: Sink>(
 /// Says what was read and written.
 fn say_counts<R: Eprint, F: Computes, I: Source, O: Sink>(
     rt: &R,
-    ends: &Ends<'_>,
-    served: &Served<F, I, O>,
+    ends: &StreamEnds<'_>,
+    served: &EndedStream<F, I, O>,
     written: &[Written],
 ) {
     say_read(rt, ends.inputs.as_slice(), served.inlets.as_slice());
@@ -107,10 +107,14 @@ fn say_count<R: Eprint>(rt: &R, way: &str, channel: &str, tokens: u64) {
 
 /// The verdict on how a stream left its network, and its text; of a stream that something else ended the text
 /// is empty.
-fn judged<B: Body>(alloc: Global, flow: &Flow<B>, finish: Finish) -> Result<Judged, AllocError> {
+fn judged<B: Body>(
+    alloc: Global,
+    flow: &Flow<B>,
+    finish: StreamFinish,
+) -> Result<Judged, AllocError> {
     let end = match finish {
-        Finish::Over(end) => end,
-        Finish::Idle => End::Deadlock,
+        StreamFinish::Over(end) => end,
+        StreamFinish::Idle => End::Deadlock,
         _ => {
             return Ok(Judged {
                 verdict: Verdict::Cut,
@@ -122,9 +126,11 @@ fn judged<B: Body>(alloc: Global, flow: &Flow<B>, finish: Finish) -> Result<Judg
 }
 
 /// Whether a stream ended since the reader of a pipe to which it is written is gone.
-fn is_reader_gone<F: Computes, I: Source, O: Sink + Failing>(served: &Served<F, I, O>) -> bool {
+fn is_reader_gone<F: Computes, I: Source, O: Sink + Failing>(
+    served: &EndedStream<F, I, O>,
+) -> bool {
     match served.finish {
-        Finish::Unwritten(k) => match failure_at(served, k) {
+        StreamFinish::Unwritten(k) => match failure_at(served, k) {
             Some(error) => error.kind() == io::ErrorKind::BrokenPipe,
             None => false,
         },
@@ -135,23 +141,23 @@ fn is_reader_gone<F: Computes, I: Source, O: Sink + Failing>(served: &Served<F, 
 /// Says what ended a stream before the network came to its end, if something did.
 fn say_fault<R: Eprint + AllocGlobal, F: Computes, I: Source + Failing, O: Sink + Failing>(
     rt: &R,
-    ends: &Ends<'_>,
-    served: &Served<F, I, O>,
+    ends: &StreamEnds<'_>,
+    served: &EndedStream<F, I, O>,
 ) {
     let (inlets, outputs) = (served.inlets.as_slice(), ends.outputs.as_slice());
     match served.finish {
-        Finish::Refused(k, refusal) => say_refused_record(
+        StreamFinish::Refused(k, refusal) => say_refused_record(
             rt,
             ends.inputs.as_slice(),
             inlets,
             k,
             refusal,
         ),
-        Finish::Unread(k) => say_input_unread(rt, ends.inputs.as_slice(), inlets, k),
-        Finish::Unwritten(k) => say_output_unwritten(rt, outputs, served, k),
-        Finish::Misfit(k) => say_token(rt, outputs, served, k),
-        Finish::Apart(k) => say_apart(rt, outputs, served, k),
-        Finish::Memory => {
+        StreamFinish::Unread(k) => say_input_unread(rt, ends.inputs.as_slice(), inlets, k),
+        StreamFinish::Unwritten(k) => say_output_unwritten(rt, outputs, served, k),
+        StreamFinish::Misfit(k) => say_token(rt, outputs, served, k),
+        StreamFinish::Apart(k) => say_apart(rt, outputs, served, k),
+        StreamFinish::Memory => {
             let _ = say_no_memory(rt);
         }
         _ => {}

@@ -4,7 +4,7 @@ ghost use Rattle.std.specs.Prelude.{◌<◌, length};
 use crate::messages::input_name;
 use hox_execute::{Pair, Ran, Streamed};
 use hox_run::{Notes, SourceNote};
-use hox_stream::{Finish, Inlet};
+use hox_stream::{Inlet, StreamFinish};
 use kpn_compute::{CardBody, Computes, bodies_of};
 use kpn_flow::stops_at_once;
 use kpn_front::{Sink, Source};
@@ -74,7 +74,10 @@ pub(crate) fn say_unused_by_stream<R: Eprint + AllocGlobal, F: Computes, I: Sour
 ) {
     let inputs = streamed.ends.inputs.as_slice();
     say_without_file(rt, rt.alloc(), streamed.served.flow.net(), inputs);
-    if matches!(streamed.served.finish, Finish::Over(_) | Finish::Idle) {
+    if matches!(
+        streamed.served.finish,
+        StreamFinish::Over(_) | StreamFinish::Idle
+    ) {
         say_not_at_end(rt, inputs, streamed.served.inlets.as_slice());
     }
 }

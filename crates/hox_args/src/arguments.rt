@@ -12,7 +12,7 @@ ghost use Rattle.hox_args.specs.HoxChoices.{AreHoxTaken, BudgetFrom, HasFewHoxWo
 use crate::command::command_line;
 use clap::ArgMatches;
 use clap::error::ErrorKind;
-use kpn_front::Status;
+use kpn_front::ExitStatus;
 use kpn_picture::Direction;
 use std::alloc::Global;
 use std::{error, fmt};
@@ -129,13 +129,13 @@ impl WordsFault {
     }
 
     /// Returns `Success` if the arguments ask for help or the version, else `WrongArguments`.
-    pub fn status(&self) -> Status
-        ensures { result ≡ (if asks_for_hox_help self.now then Status.Success else Status.WrongArguments) }
+    pub fn status(&self) -> ExitStatus
+        ensures { result ≡ (if asks_for_hox_help self.now then ExitStatus.Success else ExitStatus.WrongArguments) }
     {
         if self.asks_for_help() {
-            Status::Success
+            ExitStatus::Success
         } else {
-            Status::WrongArguments
+            ExitStatus::WrongArguments
         }
     }
 }

@@ -8,7 +8,7 @@ ghost use Rattle.hox_draw.specs.Drawing.{Draws, DrawsNet, GivesPicture};
 
 use crate::running::draw_run;
 use crate::titles::titles_of;
-use hox_network::{Fault, Request, RunFault, prepare};
+use hox_network::{Fault, NoResult, Request, prepare};
 use kpn_compute::Computes;
 use kpn_front::{Refused, Source, read_text};
 use kpn_network::Net;
@@ -87,8 +87,8 @@ fn draw_prepared<K: Computes + Titled, R: Wait + Clock + Threads + Sync>(
     }
     match draw_run(rt, alloc, net, style, request.workers) {
         Ok(picture) => Ok(picture),
-        Err(RunFault::Memory) => Err(Fault::Memory),
-        Err(RunFault::Lost) => Err(Fault::Lost),
+        Err(NoResult::Memory) => Err(Fault::Memory),
+        Err(NoResult::Lost) => Err(Fault::Lost),
     }
 }
 

@@ -3,7 +3,7 @@ ghost use Rattle.std.specs.Prelude.{◌≡◌, ◌<◌, ◌≤◌, Err, IfOk, Is
 ghost use Rattle.kpn_model.specs.Families.{family};
 ghost use Rattle.hox_draw.specs.Drawing.{DrawsRun, report_picture};
 
-use hox_network::RunFault;
+use hox_network::NoResult;
 use kpn_body::Body;
 use kpn_compute::{CardBody, Computes, bodies_of};
 use kpn_laws::determinacy_of;
@@ -11,7 +11,7 @@ use kpn_machine::{Chronicle, Machine};
 use kpn_network::Net;
 use kpn_picture::{Left, Style, Titled, picture_of};
 use kpn_report::{Report, places_of, report_of};
-use kpn_run::{Prompt, RunFault as Fault, run};
+use kpn_run::{Prompt, RunFault, run};
 use std::alloc::{AllocError, Global};
 use std::rt::Clock;
 use std::sync::Wait;
@@ -26,16 +26,16 @@ pub(crate) fn draw_run<K: Computes + Titled, R: Wait + Clock + Threads + Sync>(
     net: Net<K>,
     style: &Style<'_>,
     workers: usize,
-) -> Result<String, RunFault>
+) -> Result<String, NoResult>
     requires { (1 ≤ workers) × (workers ≤ 16) }
     ensures drawn { IfOk result (λ picture. DrawsRun (family K.Kinds) K.title style.now.direction style.now.titles.now net (string_bytes picture)) }
-    ensures lost { result ≡ Err RunFault.Lost → 1 < workers }
+    ensures lost { result ≡ Err NoResult.Lost → 1 < workers }
 {
     let Ok(bodies) = bodies_of(alloc, &net) else {
-        return Err(RunFault::Memory);
+        return Err(NoResult::Memory);
     };
     if workers == 1 {
-        draw_alone(alloc, net, bodies, style).map_err(|_| RunFault::Memory)
+        draw_alone(alloc, net, bodies, style).map_err(|_| NoResult::Memory)
     } else {
         draw_by_workers(rt, alloc, net, bodies, style, workers)
     }
@@ -63,19 +63,19 @@ fn draw_by_workers<K: Computes + Titled, R: Wait + Clock + Threads + Sync>(
     bodies: Vec<CardBody<K>>,
     style: &Style<'_>,
     workers: usize,
-) -> Result<String, RunFault>
+) -> Result<String, NoResult>
     requires cards { map ⟦<CardBody<K> as Body>⟧.card bodies.items ≡ map (λ p. p.card) net.processes }
     requires workers { (1 < workers) × (workers ≤ 16) }
     ensures { IfOk result (λ picture. DrawsRun (family K.Kinds) K.title style.now.direction style.now.titles.now net (string_bytes picture)) }
 {
     match run(rt, alloc, net, bodies, workers, &Prompt) {
         Ok(finish) => {
-            picture_of_run(alloc, finish.chronicle(), style).map_err(|_| RunFault::Memory)
+            picture_of_run(alloc, finish.chronicle(), style).map_err(|_| NoResult::Memory)
         }
-        Err(Fault::Memory { .. }) => Err(RunFault::Memory),
-        Err(Fault::Lost { .. }) => Err(RunFault::Lost),
-        Err(Fault::Workers { .. }) => unreachable!(),
-        Err(Fault::Open { .. }) => unreachable!(),
+        Err(RunFault::Memory { .. }) => Err(NoResult::Memory),
+        Err(RunFault::Lost { .. }) => Err(NoResult::Lost),
+        Err(RunFault::Workers { .. }) => unreachable!(),
+        Err(RunFault::Open { .. }) => unreachable!(),
     }
 }
 

@@ -7,7 +7,7 @@ use Rattle.kpn_model.specs.Network.{Family}
 use Rattle.hox_args.specs.declared.arguments.StreamChoice.{StreamChoice}
 use Rattle.hox_files.specs.declared.stops.Stop.{Stop}
 use Rattle.hox_files.specs.declared.stops.Stop.TheVariants.{Clash, Format, InputTwice, Memory, NoPair, Refused as WasRefused, Unread as NotRead, Words}
-use Rattle.hox_execute.specs.declared.streaming.Ends.{Ends}
+use Rattle.hox_execute.specs.declared.streaming.StreamEnds.{StreamEnds}
 use Rattle.hox_execute.specs.declared.streaming.StreamStop.{StreamStop}
 use Rattle.hox_execute.specs.declared.streaming.StreamStop.TheVariants.{Asked, Headless, OutputTwice, Refused, Unopened as NotOpened, Unread, Unwritten}
 use Rattle.hox_execute.specs.declared.streaming.Unopened.{Unopened}
@@ -15,19 +15,19 @@ use Rattle.hox_execute.specs.declared.streaming.Unopened.TheVariants.{Refused as
 use Rattle.hox_execute.specs.Streaming.{AreEnds, AreUnpaired, IsFaultyBetween, IsNoEnds, IsRefusedIn, IsSketchIn, IsStreamStop, IsUnfit, IsUnopened}
 
 module _ (kinds : Family) (named : List ℕ → Option (ℕ × ℕ)) (signature : Card → Option Signature) (contents : List ℕ → Option (List ℕ)) where
-  pub refused_unopened : (name : List ℕ) (ends : Ends) (unopened : Unopened) → IsRefusedIn named signature contents name unopened → IsUnopened kinds named signature contents name ends unopened
+  pub refused_unopened : (name : List ℕ) (ends : StreamEnds) (unopened : Unopened) → IsRefusedIn named signature contents name unopened → IsUnopened kinds named signature contents name ends unopened
   refused_unopened name ends (IsRefused refused error) h = h
   refused_unopened name ends (Faulty channels fault) (inl h) = absurd h
   refused_unopened name ends (Faulty channels fault) (inr h) = absurd h.2
   refused_unopened name ends NoMemory h = tt
 
-  faulty : (name : List ℕ) (ends : Ends) (sketch : Sketch) → IsSketchIn named signature contents name sketch → (unopened : Unopened) → IsFaultyBetween kinds named signature sketch ends unopened
+  faulty : (name : List ℕ) (ends : StreamEnds) (sketch : Sketch) → IsSketchIn named signature contents name sketch → (unopened : Unopened) → IsFaultyBetween kinds named signature sketch ends unopened
       → IsUnopened kinds named signature contents name ends unopened
   faulty name ends sketch is_in (IsRefused refused error) h = absurd h
   faulty name ends sketch is_in (Faulty channels fault) h = (sketch, is_in, h)
   faulty name ends sketch is_in NoMemory h = tt
 
-  pub faulty_unopened : {X : Type 0} (name : List ℕ) (ends : Ends) (sketch : Sketch) → IsSketchIn named signature contents name sketch → (r : Result X Unopened)
+  pub faulty_unopened : {X : Type 0} (name : List ℕ) (ends : StreamEnds) (sketch : Sketch) → IsSketchIn named signature contents name sketch → (r : Result X Unopened)
       → IfErr r (IsFaultyBetween kinds named signature sketch ends) → IfErr r (IsUnopened kinds named signature contents name ends)
   faulty_unopened {X} name ends sketch is_in (Ok x) h = tt
   faulty_unopened {X} name ends sketch is_in (Err e) h = faulty name ends sketch is_in e h
@@ -42,7 +42,7 @@ module _ (kinds : Family) (named : List ℕ → Option (ℕ × ℕ)) (signature 
     no_ends (Unread file error) h = absurd h
     no_ends (Unwritten file error) h = absurd h
 
-  module _ (clash : List ℕ → Bool → List ℕ → Bool → Option Bool) (choice : StreamChoice) (ends : Ends) (chosen : AreEnds clash choice ends) where
+  module _ (clash : List ℕ → Bool → List ℕ → Bool → Option Bool) (choice : StreamChoice) (ends : StreamEnds) (chosen : AreEnds clash choice ends) where
     unfit : (stop : StreamStop) → IsUnfit ends stop → IsStreamStop kinds named signature contents clash choice stop
     unfit (Asked stop) h = subst (λ (s : Stop). IsNoEnds clash choice (Asked s)) (sym h) tt
     unfit OutputTwice h = absurd h

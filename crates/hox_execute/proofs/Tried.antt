@@ -1,8 +1,8 @@
 -- Effects that are tried, one after another.
 use Rattle.std.proofs.Common.{◌≡◌, ◌≢◌, ◌||◌, ◌&&◌, not, Bool, true, false, List, [], ◌∷◌, ◌++◌, Option, Result, Ok, Err, OnOk, OnErr, is_ok, if◌then◌else◌, inl, inr, refl, sym, ap, ap₂, subst, ◌∙◌}
 use Rattle.std.specs.List.{AllZip}
-use Rattle.kpn_front.specs.declared.status.Status.{Status}
-use Rattle.kpn_front.specs.declared.status.Status.TheVariants.{WriteFailed}
+use Rattle.kpn_front.specs.declared.status.ExitStatus.{ExitStatus}
+use Rattle.kpn_front.specs.declared.status.ExitStatus.TheVariants.{WriteFailed}
 use Rattle.hox_files.specs.Files.{Effect, GoOn, not_said, not_written, said, wrote}
 use Rattle.hox_execute.specs.Reports.{IsTried, Tries, Writes, failure_of, has_failure, is_failure}
 use Rattle.hox_execute.proofs.Effects.{nothing, one_after}
@@ -96,7 +96,7 @@ none_of : (b : Bool) → true ≡ not b → b ≡ false
 none_of false h = refl
 none_of true h = cc h
 
-module _ (status given : Status) (effects : List Effect) (before after : Option (List Effect)) where
+module _ (status given : ExitStatus) (effects : List Effect) (before after : Option (List Effect)) where
   done_by : (are_done : Bool) → Tries effects are_done before after → given ≡ (if are_done then status else WriteFailed) → given ≢ WriteFailed → (given ≡ status) × GoOn effects before after
   done_by false tries is unfailed = absurd (unfailed is)
   done_by true tries is unfailed = (is, subst (λ l. GoOn l before after) (due effects tries.tried tries.each (none_of (has_failure tries.tried) tries.none_failed)) tries.goes_on)

@@ -4,8 +4,8 @@ use Rattle.kpn_model.specs.declared.kinds.Card.{Card}
 use Rattle.kpn_model.specs.declared.kinds.Signature.{Signature}
 use Rattle.kpn_model.specs.Network.{Family, Network}
 use Rattle.kpn_picture.specs.declared.looks.Direction.{Direction}
-use Rattle.kpn_front.specs.declared.status.Status.{Status}
-use Rattle.kpn_front.specs.declared.status.Status.TheVariants.{Success}
+use Rattle.kpn_front.specs.declared.status.ExitStatus.{ExitStatus}
+use Rattle.kpn_front.specs.declared.status.ExitStatus.TheVariants.{Success}
 use Rattle.kpn_front.specs.Lines.{checked_line}
 use Rattle.hox_network.specs.declared.request.Fault.{Fault}
 use Rattle.hox_network.specs.declared.request.Request.{Request}
@@ -60,7 +60,7 @@ module _ (named : List ℕ → Option (ℕ × ℕ)) (signature : Card → Option
       pub comes : Comes (GivesRun kinds) asked (Ok told)
       pub writes : Writes told.status (written_of want (rate_of asked.request.tokens) asked.outputs.items told) steady before after ran.status
 
-    module _ (status : Status) where
+    module _ (status : ExitStatus) where
       -- the description is a network, and that is written, or the network
       pub record HasChecked (title : ℕ → List ℕ × ℕ) (expanded : Bool) : Type 0 where
         pub asked : Asked

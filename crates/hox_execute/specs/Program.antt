@@ -3,7 +3,7 @@ use Rattle.std.specs.Prelude.{◌≡◌, ℕ, Bool, false, List, [], map, Option
 use Rattle.kpn_model.specs.declared.kinds.Card.{Card}
 use Rattle.kpn_model.specs.declared.kinds.Signature.{Signature}
 use Rattle.kpn_model.specs.Network.{Family}
-use Rattle.kpn_front.specs.declared.status.Status.{Status}
+use Rattle.kpn_front.specs.declared.status.ExitStatus.{ExitStatus}
 use Rattle.hox_args.specs.declared.arguments.Choice.{Choice}
 use Rattle.hox_args.specs.declared.arguments.Choice.TheVariants.{Check, Run, Draw, Stream, Kinds}
 use Rattle.hox_args.specs.declared.arguments.CheckChoice.{CheckChoice}
@@ -11,8 +11,8 @@ use Rattle.hox_args.specs.declared.arguments.DrawChoice.{DrawChoice}
 use Rattle.hox_args.specs.declared.arguments.RunChoice.{RunChoice}
 use Rattle.hox_args.specs.HoxChoices.{IsHoxChoice, IsHoxFault}
 use Rattle.hox_execute.specs.declared.running.Ran.{Ran as RanV}
-use Rattle.hox_execute.specs.declared.serving.Outcome.{Outcome}
-use Rattle.hox_execute.specs.declared.serving.Outcome.TheVariants.{Exits, Ran, Streams, Lists}
+use Rattle.hox_execute.specs.declared.serving.Executed.{Executed}
+use Rattle.hox_execute.specs.declared.serving.Executed.TheVariants.{Exits, Ran, Streams, Lists}
 use Rattle.hox_files.specs.declared.stops.Stop.{Stop}
 use Rattle.hox_files.specs.declared.stops.Stop.TheVariants.{Clash, Format, InputTwice, Memory, NoPair, Refused, Unread, Words}
 use Rattle.hox_execute.specs.Commands.{HasChecked, HasDrawn, HasRun, IsStop}
@@ -42,12 +42,12 @@ module _ (kinds : Family) (named : List ℕ → Option (ℕ × ℕ)) (signature 
       HasRun named signature contents clash (want_of_run run) (map (λ s. s.now) run.tokens.items) (map (λ s. s.now) run.outputs.items) steady before after kinds ran
 
   module _ (title : ℕ → List ℕ × ℕ) where
-    abbrev pub DrawsChoice : DrawChoice → Status → Type 0
+    abbrev pub DrawsChoice : DrawChoice → ExitStatus → Type 0
     DrawsChoice draw status =
         HasDrawn named signature contents clash (want_of_draw draw) (map (λ s. s.now) draw.tokens.items) [] steady before after status kinds title draw.direction (is_some draw.workers)
 
     -- the choice is carried out, or left as a stream or a list, with nothing done
-    abbrev pub Does : Choice → Outcome → Type 0
+    abbrev pub Does : Choice → Executed → Type 0
     Does (Check check) (Exits status) = HasChecked named signature contents clash (want_of_check check) (map (λ s. s.now) check.tokens.items) [] steady before after status title check.expanded
     Does (Run run) (Ran ran) = RunsChoice run ran
     Does (Draw draw) (Exits status) = DrawsChoice draw status
@@ -56,7 +56,7 @@ module _ (kinds : Family) (named : List ℕ → Option (ℕ × ℕ)) (signature 
     Does _ _ = ⊥
 
     -- the arguments are a choice, and it is carried out
-    pub record Serves (words : List (List ℕ)) (outcome : Outcome) : Type 0 where
+    pub record Serves (words : List (List ℕ)) (outcome : Executed) : Type 0 where
       pub choice : Choice
       pub chosen : IsHoxChoice words choice
       pub does : Does choice outcome

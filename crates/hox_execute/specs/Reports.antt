@@ -8,8 +8,8 @@ use Rattle.kpn_tokens.specs.declared.tables.Table.{Table}
 use Rattle.kpn_tokens.specs.declared.tables.Table.TheVariants.{Rows}
 use Rattle.kpn_tokens.specs.Records.{record_text}
 use Rattle.kpn_tokens.specs.Tables.{ColumnView, longest, table_text}
-use Rattle.kpn_front.specs.declared.status.Status.{Status}
-use Rattle.kpn_front.specs.declared.status.Status.TheVariants.{WriteFailed}
+use Rattle.kpn_front.specs.declared.status.ExitStatus.{ExitStatus}
+use Rattle.kpn_front.specs.declared.status.ExitStatus.TheVariants.{WriteFailed}
 use Rattle.hox_format.specs.Forms.{form}
 use Rattle.hox_format.specs.Heads.{head_text, layout_of, tail_text}
 use Rattle.hox_format.specs.Tables.{decimals_of}
@@ -135,7 +135,7 @@ pub record Tries (effects : List Effect) (are_done : Bool) (before after : Optio
 
 -- each effect is tried. The status is the intended one if none fails, else 7. So if it is not 7, all is
 -- written, and 7 occurs only if a write can fail, or 7 is intended
-pub record Writes (status : Status) (effects : List Effect) (steady : Bool) (before after : Option (List Effect)) (given : Status) : Type 0 where
+pub record Writes (status : ExitStatus) (effects : List Effect) (steady : Bool) (before after : Option (List Effect)) (given : ExitStatus) : Type 0 where
   pub are_done : Bool
   pub tries : Tries effects are_done before after
   pub is : given ≡ (if are_done then status else WriteFailed)

@@ -14,7 +14,7 @@ use Rattle.kpn_front.specs.Written.{SinkView}
 use Rattle.kpn_compute.specs.Both.{both_family, both_named, both_ports}
 use Rattle.kpn_flow.specs.Flows.{FlowView}
 use Rattle.hox_network.specs.Meant.{IsSketchOf, LoadsMeant}
-use Rattle.hox_stream.specs.declared.finish.Finish.{Finish}
+use Rattle.hox_stream.specs.declared.finish.StreamFinish.{StreamFinish}
 use Rattle.hox_stream.specs.declared.serving.LaidOut.{LaidOut}
 use Rattle.hox_stream.specs.declared.serving.LaidTable.{LaidTable}
 use Rattle.hox_stream.specs.declared.starting.StreamFault.{StreamFault}
@@ -32,7 +32,7 @@ use Rattle.hox_args.specs.declared.arguments.StreamChoice.{StreamChoice}
 use Rattle.hox_files.specs.declared.pairs.Pair.{Pair}
 use Rattle.hox_files.specs.declared.stops.Stop.TheVariants.{Clash, Format, InputTwice, Memory, NoPair, Refused as WasRefused, Unread as NotRead, Words}
 use Rattle.hox_files.specs.declared.stops.Stop.{Stop}
-use Rattle.hox_execute.specs.declared.streaming.Ends.{Ends}
+use Rattle.hox_execute.specs.declared.streaming.StreamEnds.{StreamEnds}
 use Rattle.hox_execute.specs.declared.streaming.StreamStop.{StreamStop}
 use Rattle.hox_execute.specs.declared.streaming.StreamStop.TheVariants.{Asked, Headless, OutputTwice, Refused, Unopened as NotOpened, Unread, Unwritten}
 use Rattle.hox_execute.specs.declared.streaming.Unopened.{Unopened}
@@ -77,7 +77,7 @@ AreUnpaired choice stop =
 module _ (clash : List ℕ → Bool → List ℕ → Bool → Option Bool) (choice : StreamChoice) where
   -- the chosen ends: standard input and output are named at most once, and no uses clash. Files of one
   -- channel come before those of several
-  pub record AreEnds (ends : Ends) : Type 0 where
+  pub record AreEnds (ends : StreamEnds) : Type 0 where
     pub inputs : ArePairsOf choice (inputs_of choice) ends.inputs.items
     pub written : List Pair
     pub outputs : ArePairsOf choice (outputs_of choice) written
@@ -167,7 +167,7 @@ IsUnwritten pairs OutputTwice = ⊥
 IsUnwritten pairs (Refused file refused error) = ⊥
 IsUnwritten pairs (NotOpened ends channels fault) = ⊥
 
-abbrev pub IsUnfit : Ends → StreamStop → Type 0
+abbrev pub IsUnfit : StreamEnds → StreamStop → Type 0
 IsUnfit ends (Unread file error) = IsOfPair ends.inputs.items file.now
 IsUnfit ends (Headless file fault) = IsOfPair ends.inputs.items file.now
 IsUnfit ends (Unwritten file error) = IsOfPair ends.outputs.items file.now
@@ -184,7 +184,7 @@ abbrev pub sources_at : FlowView → List Opening → List InletView
 sources_at start openings = new_inlets (λ (o : Option (List ℕ)). o) (λ _. false) start.network start.inputs (map source_at openings)
 
 -- a stream runs between files from its start to its end
-pub record RunsBetween (kinds : Family) (contents : List ℕ → Option (List ℕ)) (ends : Ends) (start t : FlowView) (ins : List InletView) (outs : OutsView) (finish : Finish) : Type 0 where
+pub record RunsBetween (kinds : Family) (contents : List ℕ → Option (List ℕ)) (ends : StreamEnds) (start t : FlowView) (ins : List InletView) (outs : OutsView) (finish : StreamFinish) : Type 0 where
   pub openings : List Opening
   pub opened : AllZip (IsOpening contents) ends.inputs.items openings
   pub sinks : List (LaidOut SinkView)
@@ -219,35 +219,35 @@ module _ (named : List ℕ → Option (ℕ × ℕ)) (signature : Card → Option
 
 module _ (kinds : Family) (named : List ℕ → Option (ℕ × ℕ)) where
   -- the network of a stream, in which processes that only read an output stop at once
-  abbrev pub streamed_net : Sketch → Ends → Network
+  abbrev pub streamed_net : Sketch → StreamEnds → Network
   streamed_net sketch ends = net_of (both_named named exit_named) (with_exits (channels_of ends.outputs.items) sketch)
 
   -- the stream of a sketch at its start between these ends
-  abbrev pub StartsBetween : Sketch → Ends → FlowView → Type 0
+  abbrev pub StartsBetween : Sketch → StreamEnds → FlowView → Type 0
   StartsBetween sketch ends start = IsStarted (both_family kinds exits) (streamed_net sketch ends) (channels_of ends.inputs.items) (channels_of ends.outputs.items) start
 
   module _ (signature : Card → Option Signature) where
-    abbrev pub HasStreamFault : Sketch → Ends → StreamFault → Type 0
+    abbrev pub HasStreamFault : Sketch → StreamEnds → StreamFault → Type 0
     HasStreamFault sketch ends fault =
         IsStreamFault (both_family kinds exits) (streamed_net sketch ends) (IsNoNetwork (both_named named exit_named) (both_ports signature exit_ports) (with_exits (channels_of ends.outputs.items) sketch))
         (channels_of ends.inputs.items) (channels_of ends.outputs.items) fault
 
-    abbrev pub IsFaultyBetween : Sketch → Ends → Unopened → Type 0
+    abbrev pub IsFaultyBetween : Sketch → StreamEnds → Unopened → Type 0
     IsFaultyBetween sketch ends (IsRefused refused error) = ⊥
     IsFaultyBetween sketch ends (Faulty channels fault) = HasStreamFault sketch ends fault
     IsFaultyBetween sketch ends NoMemory = Unit {0}
 
     module _ (contents : List ℕ → Option (List ℕ)) where
       -- the stream of a description at its start between these ends
-      pub record Opens (name : List ℕ) (ends : Ends) (start : FlowView) : Type 0 where
+      pub record Opens (name : List ℕ) (ends : StreamEnds) (start : FlowView) : Type 0 where
         pub sketch : Sketch
         pub is_in : IsSketchIn named signature contents name sketch
         pub started : StartsBetween sketch ends start
 
-      abbrev pub IsFaulty : List ℕ → Ends → StreamFault → Type 0
+      abbrev pub IsFaulty : List ℕ → StreamEnds → StreamFault → Type 0
       IsFaulty name ends fault = (sketch : Sketch) × IsSketchIn named signature contents name sketch × HasStreamFault sketch ends fault
 
-      abbrev pub IsUnopened : List ℕ → Ends → Unopened → Type 0
+      abbrev pub IsUnopened : List ℕ → StreamEnds → Unopened → Type 0
       IsUnopened name ends (IsRefused refused error) = IsRefusedIn named signature contents name (IsRefused refused error)
       IsUnopened name ends (Faulty channels fault) = IsFaulty name ends fault
       IsUnopened name ends NoMemory = Unit {0}
@@ -255,7 +255,7 @@ module _ (kinds : Family) (named : List ℕ → Option (ℕ × ℕ)) where
       -- which names clash, if known
       module _ (clash : List ℕ → Bool → List ℕ → Bool → Option Bool) (choice : StreamChoice) where
         -- the choice is streamed: between its ends, from the start of its network to its end
-        pub record StreamsBetween (ends : Ends) (t : FlowView) (ins : List InletView) (outs : OutsView) (finish : Finish) : Type 0 where
+        pub record StreamsBetween (ends : StreamEnds) (t : FlowView) (ins : List InletView) (outs : OutsView) (finish : StreamFinish) : Type 0 where
           pub chosen : AreEnds clash choice ends
           pub start : FlowView
           pub opens : Opens (file_of choice) ends start
@@ -266,6 +266,6 @@ module _ (kinds : Family) (named : List ℕ → Option (ℕ × ℕ)) where
         IsStreamStop OutputTwice = IsNoEnds clash choice OutputTwice
         IsStreamStop (Refused file refused error) = (file.now ≡ file_of choice) × IsRefusedIn named signature contents (file_of choice) (IsRefused refused error)
         IsStreamStop (NotOpened ends channels fault) = AreEnds clash choice ends × IsFaulty (file_of choice) ends fault
-        IsStreamStop (Headless file fault) = (ends : Ends) × AreEnds clash choice ends × IsOfPair ends.inputs.items file.now
-        IsStreamStop (Unread file error) = (ends : Ends) × AreEnds clash choice ends × IsOfPair ends.inputs.items file.now
-        IsStreamStop (Unwritten file error) = (ends : Ends) × AreEnds clash choice ends × IsOfPair ends.outputs.items file.now
+        IsStreamStop (Headless file fault) = (ends : StreamEnds) × AreEnds clash choice ends × IsOfPair ends.inputs.items file.now
+        IsStreamStop (Unread file error) = (ends : StreamEnds) × AreEnds clash choice ends × IsOfPair ends.inputs.items file.now
+        IsStreamStop (Unwritten file error) = (ends : StreamEnds) × AreEnds clash choice ends × IsOfPair ends.outputs.items file.now

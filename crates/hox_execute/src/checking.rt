@@ -11,11 +11,11 @@ ghost use Rattle.hox_files.specs.Served.{ServesNamed};
 use crate::writing::write_text;
 use hox_expanded::description_of;
 use hox_files::files::FileSystem;
-use hox_files::reading::{Wanted, asked_of};
-use hox_files::stops::{Refusal, Stop, Unserved, unopened};
+use hox_files::reading::{CommandOptions, asked_of};
+use hox_files::stops::{RefusedRequest, Stop, Unserved, unopened};
 use hox_files::watching::Watched;
 use hox_network::{Fault, Request, prepare};
-use kpn_front::{Status, say_checked};
+use kpn_front::{ExitStatus, say_checked};
 use kpn_model::Kinds;
 use kpn_network::Net;
 use kpn_picture::Titled;
@@ -29,10 +29,10 @@ const LINE_BYTES: usize = 64;
 pub(crate) fn check<'a, K: Titled, S: FileSystem>(
     alloc: Global,
     files: &mut S,
-    wanted: Wanted<'a, '_>,
+    wanted: CommandOptions<'a, '_>,
     tokens: &[&'a str],
     is_expanded: bool,
-) -> Result<Status, Stop<'a>>
+) -> Result<ExitStatus, Stop<'a>>
     ensures done { IfOk result (λ status. HasChecked K.named K.signature (S.contents files.old) (S.clash files.old) (want_of wanted.entry) (map (λ t. t.now) tokens.now) [] (S.is_steady files.old) (S.effects files.old) (S.effects files.new) status K.title is_expanded) }
     ensures stop { IfErr result (IsStop K.named K.signature (S.contents files.old) (S.clash files.old) (want_of wanted.entry) (map (λ t. t.now) tokens.now) []) }
     ensures untouched { OnErr result (S.effects files.new ≡ S.effects files.old) }
@@ -40,7 +40,7 @@ pub(crate) fn check<'a, K: Titled, S: FileSystem>(
     let asked = asked_of(alloc, files, wanted, tokens, &[])?;
     match checked_text::<K, S>(alloc, files, &asked.request, wanted.file, is_expanded) {
         Ok(text) => Ok(write_text(files, text.as_slice())),
-        Err(Unserved { fault, error }) => Err(Stop::Refused(Refusal {
+        Err(Unserved { fault, error }) => Err(Stop::Refused(RefusedRequest {
             file: wanted.file,
             asked,
             fault,
@@ -105,7 +105,7 @@ fn line_of<K: Kinds>(alloc: Global, net: &Net<K>) -> Result<Vec<u8>, AllocError>
     ensures { IfOk result (λ line. line.items ≡ checked_line net.now) }
 {
     let mut line = Vec::with_capacity(alloc, LINE_BYTES)?;
-    if say_checked(net, &mut line) == Status::Success.code() {
+    if say_checked(net, &mut line) == ExitStatus::Success.code() {
         Ok(line)
     } else {
         Err(AllocError)

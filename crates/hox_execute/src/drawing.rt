@@ -10,12 +10,12 @@ ghost use Rattle.hox_files.specs.Served.{ServesNamed};
 use crate::writing::write_text;
 use hox_draw::{Direction, draw as picture_of};
 use hox_files::files::FileSystem;
-use hox_files::reading::{Wanted, asked_of};
-use hox_files::stops::{Refusal, Stop, Unserved, unopened};
+use hox_files::reading::{CommandOptions, asked_of};
+use hox_files::stops::{RefusedRequest, Stop, Unserved, unopened};
 use hox_files::watching::Watched;
 use hox_network::Request;
 use kpn_compute::Computes;
-use kpn_front::Status;
+use kpn_front::ExitStatus;
 use kpn_picture::Titled;
 use std::alloc::Global;
 use std::rt::Clock;
@@ -28,11 +28,11 @@ pub(crate) fn draw<'a, K: Computes + Titled, S: FileSystem, R: Wait + Clock + Th
     rt: &R,
     alloc: Global,
     files: &mut S,
-    wanted: Wanted<'a, '_>,
+    wanted: CommandOptions<'a, '_>,
     tokens: &[&'a str],
     direction: Direction,
     is_run: bool,
-) -> Result<Status, Stop<'a>>
+) -> Result<ExitStatus, Stop<'a>>
     requires { (1 ≤ wanted.workers) × (wanted.workers ≤ 16) }
     ensures done { IfOk result (λ status. HasDrawn K.named K.signature (S.contents files.old) (S.clash files.old) (want_of wanted.entry) (map (λ t. t.now) tokens.now) [] (S.is_steady files.old) (S.effects files.old) (S.effects files.new) status (family K.Kinds) K.title direction is_run) }
     ensures stop { IfErr result (IsStop K.named K.signature (S.contents files.old) (S.clash files.old) (want_of wanted.entry) (map (λ t. t.now) tokens.now) []) }
@@ -49,7 +49,7 @@ pub(crate) fn draw<'a, K: Computes + Titled, S: FileSystem, R: Wait + Clock + Th
         is_run,
     ) {
         Ok(picture) => Ok(write_text(files, picture.as_str().as_bytes())),
-        Err(Unserved { fault, error }) => Err(Stop::Refused(Refusal {
+        Err(Unserved { fault, error }) => Err(Stop::Refused(RefusedRequest {
             file: wanted.file,
             asked,
             fault,

@@ -1,5 +1,5 @@
 //! Progress, if the arguments ask for it.
-use hox_run::{Progress, SoFar};
+use hox_run::{ProgressReceiver, SoFar};
 
 /// Forwards progress if the arguments ask for it, or the receiver wants it anyway.
 #[derive(Drop)]
@@ -8,7 +8,7 @@ pub(crate) struct Asking<'a, P> {
     pub(crate) is_asked: bool,
 }
 
-impl<'a, P: Progress> Progress for Asking<'a, P> {
+impl<'a, P: ProgressReceiver> ProgressReceiver for Asking<'a, P> {
     fn is_wanted(&self) -> bool {
         self.is_asked || self.progress.is_wanted()
     }

@@ -12,14 +12,14 @@ use crate::texts::{FileNote, file_notes, file_texts, rate_of};
 use crate::writing::write_told;
 use hox_files::files::FileSystem;
 use hox_files::pairs::{Pair, firsts_of};
-use hox_files::reading::{Asked, Wanted, asked_of};
-use hox_files::stops::{Refusal, Stop, Unserved, unopened};
+use hox_files::reading::{Asked, CommandOptions, asked_of};
+use hox_files::stops::{RefusedRequest, Stop, Unserved, unopened};
 use hox_files::watching::Watched;
 use hox_json::json_of_report;
 use hox_network::Request;
-use hox_run::{Notes, Progress, Told, serve};
+use hox_run::{Notes, ProgressReceiver, Told, serve};
 use kpn_compute::Computes;
-use kpn_front::Status;
+use kpn_front::ExitStatus;
 use std::alloc::{AllocError, Global};
 use std::rt::Clock;
 use std::sync::Wait;
@@ -29,7 +29,7 @@ use std::thread::Threads;
 /// and what was written to each output.
 #[derive(Drop)]
 pub struct Ran<'a> {
-    pub status: Status,
+    pub status: ExitStatus,
     pub notes: Notes,
     pub tokens: Vec<Pair<'a>>,
     pub outputs: Vec<Pair<'a>>,
@@ -38,11 +38,17 @@ pub struct Ran<'a> {
 
 /// Runs a network on the tokens of files; writes the report, unless the command is quiet, and each stream to
 /// its file. `progress` receives the progress of the run. Errors: see [`Stop`].
-pub(crate) fn run<'a, K: Computes, S: FileSystem, R: Wait + Clock + Threads + Sync, P: Progress>(
+pub(crate) fn run<
+    'a,
+    K: Computes,
+    S: FileSystem,
+    R: Wait + Clock + Threads + Sync,
+    P: ProgressReceiver,
+>(
     rt: &R,
     alloc: Global,
     files: &mut S,
-    wanted: Wanted<'a, '_>,
+    wanted: CommandOptions<'a, '_>,
     tokens: &[&'a str],
     outputs: &[&'a str],
     progress: &P,
@@ -55,7 +61,7 @@ pub(crate) fn run<'a, K: Computes, S: FileSystem, R: Wait + Clock + Threads + Sy
     let asked = asked_of(alloc, files, wanted, tokens, outputs)?;
     match told_of::<K, S, R, P>(rt, alloc, files, &asked.request, wanted.file, progress) {
         Ok(told) => ran_of(alloc, files, told, asked, wanted),
-        Err(Unserved { fault, error }) => Err(Stop::Refused(Refusal {
+        Err(Unserved { fault, error }) => Err(Stop::Refused(RefusedRequest {
             file: wanted.file,
             asked,
             fault,
@@ -70,7 +76,7 @@ fn ran_of<'a, S: FileSystem>(
     files: &mut S,
     told: Told,
     asked: Asked<'a>,
-    wanted: Wanted<'_, '_>,
+    wanted: CommandOptions<'_, '_>,
 ) -> Result<Ran<'a>, Stop<'a>>
     ensures writes { IfOk result (λ ran. Writes told.status (written_of (want_of wanted.entry) (rate_of asked.entry.request.tokens) asked.entry.outputs.items told) (S.is_steady files.old) (S.effects files.old) (S.effects files.new) ran.status) }
     ensures notes { IfOk result (IsNoted asked.entry.tokens.items asked.entry.outputs.items told) }
@@ -124,7 +130,7 @@ fn report_as(alloc: Global, report: String, is_json: bool) -> Result<String, All
 }
 
 /// Runs the network of a description. A file that can't be opened counts as one that can't be read.
-fn told_of<K: Computes, S: FileSystem, R: Wait + Clock + Threads + Sync, P: Progress>(
+fn told_of<K: Computes, S: FileSystem, R: Wait + Clock + Threads + Sync, P: ProgressReceiver>(
     rt: &R,
     alloc: Global,
     files: &S,

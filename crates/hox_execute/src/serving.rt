@@ -1,6 +1,6 @@
 //! Executes the arguments.
 ghost use Rattle.std.specs.Prelude.{◌≡◌, ◌≤◌, IfOk, IfErr, IfSome, MatchResult, None, false, OnErr, [], is_some, map, option_map};
-ghost use Rattle.kpn_front.specs.declared.status.Status.{Status as StatusV};
+ghost use Rattle.kpn_front.specs.declared.status.ExitStatus.{ExitStatus as ExitStatusV};
 ghost use Rattle.hox_execute.specs.declared.running.Ran.{Ran as RanV};
 ghost use Rattle.kpn_model.specs.Families.{family};
 ghost use Rattle.hox_args.specs.HoxChoices.{HasFewHoxWorkers};
@@ -14,11 +14,11 @@ use crate::running::{Ran, run};
 use hox_args::{Choice, DrawChoice, KindsChoice, RunChoice, StreamChoice, read_words};
 use hox_files::files::FileSystem;
 use hox_files::pairs::name_of;
-use hox_files::reading::Wanted;
+use hox_files::reading::CommandOptions;
 use hox_files::stops::Stop;
-use hox_run::Progress;
+use hox_run::ProgressReceiver;
 use kpn_compute::Computes;
-use kpn_front::Status;
+use kpn_front::ExitStatus;
 use kpn_picture::Titled;
 use std::alloc::Global;
 use std::rt::Clock;
@@ -27,9 +27,9 @@ use std::thread::Threads;
 
 /// What `execute` did, or leaves to do.
 #[derive(Drop)]
-pub enum Outcome<'a> {
+pub enum Executed<'a> {
     /// All is done. The program exits with this status: 0, or 7 if a write failed.
-    Exits(Status),
+    Exits(ExitStatus),
     /// A network was run. The program exits with its status: that of the verdict, or 2 if a token does not
     /// fit a file, or 7 if a write failed.
     Ran(Ran<'a>),
@@ -49,14 +49,14 @@ pub fn execute<
     K: Computes + Titled,
     S: FileSystem,
     R: Wait + Clock + Threads + Sync,
-    P: Progress,
+    P: ProgressReceiver,
 >(
     rt: &R,
     alloc: Global,
     files: &mut S,
     arguments: &'a [&'a str],
     progress: &P,
-) -> Result<Outcome<'a>, Stop<'a>>
+) -> Result<Executed<'a>, Stop<'a>>
     ensures done { IfOk result (Serves (family K.Kinds) K.named K.signature (S.contents files.old) (S.clash files.old) (S.is_steady files.old) (S.effects files.old) (S.effects files.new) K.title (map (λ w. w.now) arguments.entry.now)) }
     ensures stop { IfErr result (IsProgramStop K.named K.signature (S.contents files.old) (S.clash files.old) (map (λ w. w.now) arguments.entry.now)) }
     ensures untouched { OnErr result (S.effects files.new ≡ S.effects files.old) }
@@ -72,14 +72,14 @@ fn execute_choice<
     K: Computes + Titled,
     S: FileSystem,
     R: Wait + Clock + Threads + Sync,
-    P: Progress,
+    P: ProgressReceiver,
 >(
     rt: &R,
     alloc: Global,
     files: &mut S,
     choice: Choice<'a>,
     progress: &P,
-) -> Result<Outcome<'a>, Stop<'a>>
+) -> Result<Executed<'a>, Stop<'a>>
     requires { HasFewHoxWorkers choice }
     ensures done { IfOk result (Does (family K.Kinds) K.named K.signature (S.contents files.old) (S.clash files.old) (S.is_steady files.old) (S.effects files.old) (S.effects files.new) K.title choice.entry) }
     ensures stop { IfErr result (IsStopIn K.named K.signature (S.contents files.old) (S.clash files.old) choice.entry) }
@@ -93,33 +93,33 @@ fn execute_choice<
         }
         Choice::Run(run) => has_run(run_choice::<K, S, R, P>(rt, alloc, files, &run, progress)),
         Choice::Draw(draw) => exits(draw_choice::<K, S, R>(rt, alloc, files, &draw)),
-        Choice::Stream(stream) => Ok(Outcome::Streams(stream)),
-        Choice::Kinds(kinds) => Ok(Outcome::Lists(kinds)),
+        Choice::Stream(stream) => Ok(Executed::Streams(stream)),
+        Choice::Kinds(kinds) => Ok(Executed::Lists(kinds)),
     }
 }
 
-fn exits<'a>(done: Result<Status, Stop<'a>>) -> Result<Outcome<'a>, Stop<'a>>
-    ensures { MatchResult result (λ outcome. (status : StatusV) × (outcome ≡ Outcome.Exits status) × (done.entry ≡ Ok status)) (λ stop. done.entry ≡ Err stop) }
+fn exits<'a>(done: Result<ExitStatus, Stop<'a>>) -> Result<Executed<'a>, Stop<'a>>
+    ensures { MatchResult result (λ outcome. (status : ExitStatusV) × (outcome ≡ Executed.Exits status) × (done.entry ≡ Ok status)) (λ stop. done.entry ≡ Err stop) }
 {
     match done {
-        Ok(status) => Ok(Outcome::Exits(status)),
+        Ok(status) => Ok(Executed::Exits(status)),
         Err(stop) => Err(stop),
     }
 }
 
-fn has_run<'a>(done: Result<Ran<'a>, Stop<'a>>) -> Result<Outcome<'a>, Stop<'a>>
-    ensures { MatchResult result (λ outcome. (ran : RanV) × (outcome ≡ Outcome.Ran ran) × (done.entry ≡ Ok ran)) (λ stop. done.entry ≡ Err stop) }
+fn has_run<'a>(done: Result<Ran<'a>, Stop<'a>>) -> Result<Executed<'a>, Stop<'a>>
+    ensures { MatchResult result (λ outcome. (ran : RanV) × (outcome ≡ Executed.Ran ran) × (done.entry ≡ Ok ran)) (λ stop. done.entry ≡ Err stop) }
 {
     match done {
-        Ok(ran) => Ok(Outcome::Ran(ran)),
+        Ok(ran) => Ok(Executed::Ran(ran)),
         Err(stop) => Err(stop),
     }
 }
 
-fn network_in<'a, 'b>(file: Option<&'a str>, formats: &'b [&'a str]) -> Wanted<'a, 'b>
+fn network_in<'a, 'b>(file: Option<&'a str>, formats: &'b [&'a str]) -> CommandOptions<'a, 'b>
     ensures { want_of result ≡ want_in (option_map (λ s. s.now) file.entry) (map (λ s. s.now) formats.entry.now) 1 }
 {
-    Wanted {
+    CommandOptions {
         file: name_of(file),
         workers: 1,
         budget: None,
@@ -131,7 +131,13 @@ fn network_in<'a, 'b>(file: Option<&'a str>, formats: &'b [&'a str]) -> Wanted<'
     }
 }
 
-fn run_choice<'a, K: Computes, S: FileSystem, R: Wait + Clock + Threads + Sync, P: Progress>(
+fn run_choice<
+    'a,
+    K: Computes,
+    S: FileSystem,
+    R: Wait + Clock + Threads + Sync,
+    P: ProgressReceiver,
+>(
     rt: &R,
     alloc: Global,
     files: &mut S,
@@ -158,11 +164,11 @@ fn run_choice<'a, K: Computes, S: FileSystem, R: Wait + Clock + Threads + Sync, 
     )
 }
 
-fn wanted_of<'a, 'b>(choice: &'b RunChoice<'a>) -> Wanted<'a, 'b>
+fn wanted_of<'a, 'b>(choice: &'b RunChoice<'a>) -> CommandOptions<'a, 'b>
     ensures want { want_of result ≡ want_of_run choice.now }
     ensures workers { result.workers ≡ choice.now.workers }
 {
-    Wanted {
+    CommandOptions {
         file: name_of(choice.file),
         workers: choice.workers,
         budget: choice.budget,
@@ -179,13 +185,13 @@ fn draw_choice<'a, K: Computes + Titled, S: FileSystem, R: Wait + Clock + Thread
     alloc: Global,
     files: &mut S,
     choice: &DrawChoice<'a>,
-) -> Result<Status, Stop<'a>>
+) -> Result<ExitStatus, Stop<'a>>
     requires { IfSome choice.now.workers (λ n. (1 ≤ n) × (n ≤ 16)) }
     ensures done { IfOk result (DrawsChoice (family K.Kinds) K.named K.signature (S.contents files.old) (S.clash files.old) (S.is_steady files.old) (S.effects files.old) (S.effects files.new) K.title choice.now) }
     ensures stop { IfErr result (IsDrawStop K.named K.signature (S.contents files.old) (S.clash files.old) choice.now) }
     ensures untouched { OnErr result (S.effects files.new ≡ S.effects files.old) }
 {
-    let wanted = Wanted {
+    let wanted = CommandOptions {
         file: name_of(choice.file),
         workers: choice.workers.unwrap_or(1),
         budget: None,

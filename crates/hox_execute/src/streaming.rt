@@ -24,8 +24,8 @@ use hox_files::uses::{Role, check_uses};
 use hox_format::{BeginFault, Begun, HeadFault, Resumed, begin};
 use hox_network::{channel_names, load_by_ports, sketch_by_ports};
 use hox_stream::{
-    Exits, LaidEnds, LaidOut, LaidTable, Onlooker, OpenStream, Served, StreamFault, open_stream,
-    serve,
+    EndedStream, Exits, LaidEnds, LaidOut, LaidTable, Onlooker, OpenStream, StreamFault,
+    open_stream, serve,
 };
 use kpn_compute::{Both, Computes};
 use kpn_front::{Refused, Sink, Source};
@@ -36,7 +36,7 @@ use std::io;
 
 /// The ends of a stream: the channels and files of its inputs, and of its outputs, those with a file alone first.
 #[derive(Drop)]
-pub struct Ends<'a> {
+pub struct StreamEnds<'a> {
     pub inputs: Vec<Pair<'a>>,
     pub outputs: Vec<Pair<'a>>,
 }
@@ -44,8 +44,8 @@ pub struct Ends<'a> {
 /// A stream that ended: its ends, and what is left of it.
 #[derive(Drop)]
 pub struct Streamed<'a, F: Computes, I: Source, O: Sink> {
-    pub ends: Ends<'a>,
-    pub served: Served<F, I, O>,
+    pub ends: StreamEnds<'a>,
+    pub served: EndedStream<F, I, O>,
 }
 
 /// Why a stream is not run. Then at most what precedes the tokens, and a piece of these, was read of its
@@ -66,7 +66,7 @@ pub enum StreamStop<'a> {
     },
     /// The stream between these ends can't be opened. `channels` are the names of all channels.
     Unopened {
-        ends: Ends<'a>,
+        ends: StreamEnds<'a>,
         channels: Listed<Text>,
         fault: StreamFault,
     },
@@ -123,11 +123,11 @@ fn ends_of<'a, S: FileSystem>(
     alloc: Global,
     files: &S,
     choice: &StreamChoice<'a>,
-) -> Result<Ends<'a>, StreamStop<'a>>
+) -> Result<StreamEnds<'a>, StreamStop<'a>>
     ensures ok { IfOk result (AreEnds (S.clash files.now) choice.now) }
     ensures fault { IfErr result (IsNoEnds (S.clash files.now) choice.now) }
 {
-    let Ends { inputs, outputs } = match named_ends(alloc, choice) {
+    let StreamEnds { inputs, outputs } = match named_ends(alloc, choice) {
         Ok(ends) => ends,
         Err(stop) => return Err(StreamStop::Asked(stop)),
     };
@@ -146,7 +146,7 @@ fn ends_of<'a, S: FileSystem>(
     }
     let (read, written) = (inputs.as_slice(), firsts.as_slice());
     match check_uses(alloc, files, Role::In, file, read, written, false) {
-        Ok(()) => Ok(Ends {
+        Ok(()) => Ok(StreamEnds {
             inputs,
             outputs: in_order,
         }),
@@ -155,7 +155,7 @@ fn ends_of<'a, S: FileSystem>(
 }
 
 /// Parses the ends, without checking that their files can be used together.
-fn named_ends<'a>(alloc: Global, choice: &StreamChoice<'a>) -> Result<Ends<'a>, Stop<'a>>
+fn named_ends<'a>(alloc: Global, choice: &StreamChoice<'a>) -> Result<StreamEnds<'a>, Stop<'a>>
     ensures inputs { IfOk result (λ ends. ArePairsOf choice.now (inputs_of choice.now) ends.inputs.items) }
     ensures outputs { IfOk result (λ ends. ArePairsOf choice.now (outputs_of choice.now) ends.outputs.items) }
     ensures formats { IfOk result (λ ends. AreUsable ends.inputs.items ends.outputs.items (formats_of choice.now)) }
@@ -168,7 +168,7 @@ fn named_ends<'a>(alloc: Global, choice: &StreamChoice<'a>) -> Result<Ends<'a>, 
     let inputs = pairs_of(alloc, "in", choice.inputs.as_slice(), formats)?;
     let outputs = pairs_of(alloc, "out", choice.outputs.as_slice(), formats)?;
     check_formats(formats.texts, inputs.as_slice(), outputs.as_slice())?;
-    Ok(Ends { inputs, outputs })
+    Ok(StreamEnds { inputs, outputs })
 }
 
 /// Why a stream is not opened: its description is faulty, or can't be read for this reason; or the sketch has
@@ -184,7 +184,7 @@ fn opened<K: Computes, S: FileSystem>(
     alloc: Global,
     files: &S,
     name: &str,
-    ends: &Ends<'_>,
+    ends: &StreamEnds<'_>,
 ) -> Result<OpenStream<Both<K, Exits>>, Unopened>
     ensures ok { IfOk result (Opens (family K.Kinds) K.named K.signature (S.contents files.now) name.now ends.now) }
     ensures fault { IfErr result (IsUnopened (family K.Kinds) K.named K.signature (S.contents files.now) name.now ends.now) }
@@ -205,7 +205,7 @@ pub(crate) struct Described {
 fn open_described<K: Computes>(
     alloc: Global,
     described: Described,
-    ends: &Ends<'_>,
+    ends: &StreamEnds<'_>,
 ) -> Result<OpenStream<Both<K, Exits>>, Unopened>
     ensures ok { IfOk result (StartsBetween (family K.Kinds) K.named described.sketch ends.now) }
     ensures fault { IfErr result (IsFaultyBetween (family K.Kinds) K.named K.signature described.sketch ends.now) }
@@ -223,7 +223,7 @@ fn open_described<K: Computes>(
     }
 }
 
-fn fed_names(alloc: Global, ends: &Ends<'_>) -> Result<Vec<Text>, AllocError>
+fn fed_names(alloc: Global, ends: &StreamEnds<'_>) -> Result<Vec<Text>, AllocError>
     ensures { IfOk result (λ names. names.items ≡ channels_of ends.now.inputs.items) }
 {
     names_of(alloc, ends.inputs.as_slice())
@@ -294,7 +294,7 @@ fn channels_in<K: Kinds>(alloc: Global, text: &[u8]) -> Result<Listed<Text>, Uno
 fn run_between<'a, F: Computes, S: FileSystem, L: Onlooker>(
     alloc: Global,
     files: &S,
-    ends: Ends<'a>,
+    ends: StreamEnds<'a>,
     start: OpenStream<F>,
     onlooker: &L,
 ) -> Result<Streamed<'a, F, Resumed<S::Input>, S::Output>, StreamStop<'a>>
@@ -323,7 +323,7 @@ struct OpenFiles<I, O> {
 
 fn run_opened<'a, F: Computes, I: Source + Drop, O: Sink + Drop, L: Onlooker>(
     alloc: Global,
-    ends: Ends<'a>,
+    ends: StreamEnds<'a>,
     start: OpenStream<F>,
     opened: OpenFiles<I, O>,
     onlooker: &L,

@@ -5,7 +5,7 @@ ghost use Rattle.hox_execute.specs.Reports.{Tries, Writes, reported, streams_wri
 
 use hox_files::files::FileSystem;
 use hox_files::pairs::{Pair, STANDARD, is_output_named};
-use kpn_front::Status;
+use kpn_front::ExitStatus;
 use kpn_model::Listed;
 
 /// Writes the report, unless the command is quiet, to standard output, or to standard error if a stream goes
@@ -13,12 +13,12 @@ use kpn_model::Listed;
 /// `status`, or `WriteFailed` if a write fails.
 pub(crate) fn write_told<S: FileSystem>(
     files: &mut S,
-    status: Status,
+    status: ExitStatus,
     report: &String,
     outputs: &[Pair<'_>],
     texts: &[Listed<u8>],
     is_quiet: bool,
-) -> Status
+) -> ExitStatus
     ensures { Writes status (told_written is_quiet outputs.now (string_bytes report.now) texts.now) (S.is_steady files.old) (S.effects files.old) (S.effects files.new) result }
 {
     if is_quiet {
@@ -44,13 +44,13 @@ fn write_all<S: FileSystem>(
     is_reported && are_written
 }
 
-fn status_if(is_written: bool, status: Status) -> Status
-    ensures { result ≡ (if is_written then status else Status.WriteFailed) }
+fn status_if(is_written: bool, status: ExitStatus) -> ExitStatus
+    ensures { result ≡ (if is_written then status else ExitStatus.WriteFailed) }
 {
     if is_written {
         status
     } else {
-        Status::WriteFailed
+        ExitStatus::WriteFailed
     }
 }
 
@@ -100,8 +100,8 @@ fn write_stream<S: FileSystem>(files: &mut S, pair: Pair<'_>, text: &Listed<u8>)
 }
 
 /// Writes to standard output. Returns the exit status.
-pub(crate) fn write_text<S: FileSystem>(files: &mut S, text: &[u8]) -> Status
-    ensures { Writes Status.Success (wrote standard text.now ∷ []) (S.is_steady files.old) (S.effects files.old) (S.effects files.new) result }
+pub(crate) fn write_text<S: FileSystem>(files: &mut S, text: &[u8]) -> ExitStatus
+    ensures { Writes ExitStatus.Success (wrote standard text.now ∷ []) (S.is_steady files.old) (S.effects files.old) (S.effects files.new) result }
 {
-    status_if(files.write(STANDARD, text).is_ok(), Status::Success)
+    status_if(files.write(STANDARD, text).is_ok(), ExitStatus::Success)
 }

@@ -12,9 +12,9 @@ use Rattle.hox_network.specs.declared.request.TokenFile.{TokenFile}
 use Rattle.hox_network.specs.Preparing.{Serves}
 use Rattle.kpn_tokens.specs.declared.layouts.Decimals.{Decimals}
 use Rattle.kpn_tokens.specs.declared.layouts.Layout.{Layout}
-use Rattle.hox_format.specs.declared.bodies.Body.{Body}
-use Rattle.hox_format.specs.declared.bodies.HeadFault.{HeadFault}
-use Rattle.hox_format.specs.Bodies.{IsBodyResult, body_bytes}
+use Rattle.hox_format.specs.declared.records.Records.{Records}
+use Rattle.hox_format.specs.declared.records.HeadFault.{HeadFault}
+use Rattle.hox_format.specs.Records.{IsRecordsResult, records_bytes}
 use Rattle.hox_format.specs.Forms.{form}
 use Rattle.hox_format.specs.Heads.{layout_of}
 use Rattle.hox_files.specs.declared.formats.FormatStop.{FormatStop}
@@ -23,7 +23,7 @@ use Rattle.hox_files.specs.declared.pairs.Pair.{Pair}
 use Rattle.hox_files.specs.declared.reading.Asked.{Asked}
 use Rattle.hox_files.specs.declared.reading.ReadError.{ReadError}
 use Rattle.hox_files.specs.declared.reading.ReadError.TheVariants.{Failed, TooLong, Memory as NoMemory}
-use Rattle.hox_files.specs.declared.reading.Wanted.{Wanted}
+use Rattle.hox_files.specs.declared.reading.CommandOptions.{CommandOptions}
 use Rattle.hox_files.specs.declared.stops.Stop.{Stop}
 use Rattle.hox_files.specs.declared.stops.Stop.TheVariants.{Clash, Format, InputTwice, Memory, NoPair, Refused, Unread, Words}
 use Rattle.hox_files.specs.declared.uses.Role.TheVariants.{Tokens}
@@ -42,7 +42,7 @@ pub record Want : Type 0 where
   pub is_quiet : Bool
   pub is_json : Bool
 
-abbrev pub want_of : Wanted → Want
+abbrev pub want_of : CommandOptions → Want
 want_of wanted = record { file = wanted.file.now; workers = wanted.workers; budget = wanted.budget; show = map (λ s. s.now) wanted.show.now; formats = map (λ s. s.now) wanted.formats.now; unsigned = map (λ s. s.now) wanted.unsigned.now; is_quiet = wanted.is_quiet; is_json = wanted.is_json }
 
 -- a report goes to standard output, unless the command is quiet, or a stream goes there
@@ -72,18 +72,18 @@ pub record AsksRest (want : Want) (outputs : List Pair) (request : Request) : Ty
   pub show : request.show ≡ map (shown_as want.unsigned) want.show
   pub outputs_are : request.outputs ≡ map written_as outputs
 
--- the tokens of a channel are in the body of its file's bytes
+-- the tokens of a channel are the records of its file
 pub record IsFileOf (pair : Pair) (bytes : List ℕ) (file : TokenFile) : Type 0 where
   pub channel : file.channel ≡ pair.channel.now
-  pub body : Body
-  pub told : IsBodyResult (form pair.format) pair.place pair.count bytes true (Ok (Some body))
-  pub layout : file.layout ≡ body.layout
-  pub bytes_are : file.bytes ≡ body_bytes body bytes
-  pub rate : file.rate ≡ body.rate
+  pub records : Records
+  pub told : IsRecordsResult (form pair.format) pair.place pair.count bytes true (Ok (Some records))
+  pub layout : file.layout ≡ records.layout
+  pub bytes_are : file.bytes ≡ records_bytes records bytes
+  pub rate : file.rate ≡ records.rate
 
 -- what precedes its tokens is faulty, or out of memory
 abbrev pub IsHeadFault : Pair → List ℕ → FormatStop → Type 0
-IsHeadFault pair bytes (Head file fault) = (file.now ≡ pair.file.now) × IsBodyResult (form pair.format) pair.place pair.count bytes true (Err fault)
+IsHeadFault pair bytes (Head file fault) = (file.now ≡ pair.file.now) × IsRecordsResult (form pair.format) pair.place pair.count bytes true (Err fault)
 IsHeadFault pair bytes (Unknown fault) = ⊥
 IsHeadFault pair bytes (NoUse channel) = ⊥
 IsHeadFault pair bytes (Twice channel) = ⊥

@@ -1,7 +1,7 @@
 -- The exit status of a program that does not carry out its command.
 use Rattle.std.specs.Prelude.{if◌then◌else◌}
-use Rattle.kpn_front.specs.declared.status.Status.{Status}
-use Rattle.kpn_front.specs.declared.status.Status.TheVariants.{Success, WrongArguments, Refused as WasRefused, MemoryRefused}
+use Rattle.kpn_front.specs.declared.status.ExitStatus.{ExitStatus}
+use Rattle.kpn_front.specs.declared.status.ExitStatus.TheVariants.{Success, WrongArguments, Refused as WasRefused, MemoryRefused}
 use Rattle.hox_args.specs.HoxChoices.{asks_for_hox_help}
 use Rattle.hox_network.specs.Statuses.{status_of_fault}
 use Rattle.hox_files.specs.declared.formats.FormatStop.{FormatStop}
@@ -11,12 +11,12 @@ use Rattle.hox_files.specs.declared.reading.ReadError.TheVariants.{Failed, TooLo
 use Rattle.hox_files.specs.declared.stops.Stop.{Stop}
 use Rattle.hox_files.specs.declared.stops.Stop.TheVariants.{Clash, Format, InputTwice, Memory, NoPair, Refused, Unread, Words}
 
-abbrev pub status_of_unread : ReadError → Status
+abbrev pub status_of_unread : ReadError → ExitStatus
 status_of_unread NoMemory = MemoryRefused
 status_of_unread (Failed error) = WasRefused
 status_of_unread TooLong = WasRefused
 
-abbrev pub status_of_format : FormatStop → Status
+abbrev pub status_of_format : FormatStop → ExitStatus
 status_of_format (Unknown fault) = WrongArguments
 status_of_format (NoUse channel) = WrongArguments
 status_of_format (Twice channel) = WrongArguments
@@ -24,7 +24,7 @@ status_of_format (Head file fault) = WasRefused
 status_of_format (Alone file) = WrongArguments
 status_of_format (Unlike file channel) = WrongArguments
 
-abbrev pub status_of_stop : Stop → Status
+abbrev pub status_of_stop : Stop → ExitStatus
 status_of_stop (Words fault) = if asks_for_hox_help fault then Success else WrongArguments
 status_of_stop (NoPair option text) = WrongArguments
 status_of_stop InputTwice = WrongArguments

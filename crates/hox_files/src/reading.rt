@@ -3,7 +3,7 @@ ghost use Rattle.std.specs.Prelude.{◌≡◌, ◌<◌, IfOk, IfErr, IfSome, fal
 ghost use Rattle.std.specs.List.{AllZip};
 ghost use Rattle.hox_files.specs.Pairs.{channels_of};
 ghost use Rattle.hox_files.specs.declared.pairs.Pair.{Pair as PairV};
-ghost use Rattle.hox_format.specs.Bodies.{body_bytes};
+ghost use Rattle.hox_format.specs.Records.{records_bytes};
 ghost use Rattle.hox_files.specs.Requests.{AsksRest, IsAsked, IsErrorIn, IsFileOf, IsNoFileOf, IsRead, IsReadError, IsRequest, IsUnasked, IsUnfetched, is_told, shown_as, want_of, written_as};
 
 use crate::files::FileSystem;
@@ -12,7 +12,7 @@ use crate::pairs::{Pair, count_standard, firsts_of, is_named_twice, pairs_of};
 use crate::stops::Stop;
 use crate::uses::{Role, check_uses};
 use crate::watching::Watched;
-use hox_format::{Body, body_in, body_of, layout_of};
+use hox_format::{Records, layout_of, records_in, records_of};
 use hox_network::{ReadFault, Request, StreamAs, TokenFile, read_whole};
 use kpn_front::Source;
 use kpn_model::{Listed, Text};
@@ -20,11 +20,11 @@ use kpn_tokens::{Decimals, Layout};
 use std::alloc::{AllocError, Global};
 use std::io;
 
-/// What a command wants: the description's file, the number of workers, the budget that overrides the description's,
-/// the channels to show, the formats of files, the unsigned channels, whether to print only streams, and
-/// whether the report is JSON.
+/// The options of a command: the description's file, the number of workers, the budget that overrides the
+/// description's, the channels to show, the formats of files, the unsigned channels, whether to print only streams,
+/// and whether the report is JSON.
 #[derive(Clone, Copy, Debug)]
-pub struct Wanted<'a, 'b> {
+pub struct CommandOptions<'a, 'b> {
     pub file: &'a str,
     pub workers: usize,
     pub budget: Option<u64>,
@@ -58,7 +58,7 @@ pub struct Asked<'a> {
 pub fn asked_of<'a, S: FileSystem>(
     alloc: Global,
     files: &S,
-    wanted: Wanted<'a, '_>,
+    wanted: CommandOptions<'a, '_>,
     tokens: &[&'a str],
     outputs: &[&'a str],
 ) -> Result<Asked<'a>, Stop<'a>>
@@ -103,7 +103,7 @@ fn is_told(is_quiet: bool, outputs: &[Pair<'_>]) -> bool
 fn request_of<'a, S: FileSystem>(
     alloc: Global,
     files: &S,
-    wanted: Wanted<'a, '_>,
+    wanted: CommandOptions<'a, '_>,
     tokens: &[Pair<'a>],
     outputs: &[Pair<'a>],
 ) -> Result<Request, Stop<'a>>
@@ -119,7 +119,7 @@ fn request_of<'a, S: FileSystem>(
 
 fn request_with(
     alloc: Global,
-    wanted: Wanted<'_, '_>,
+    wanted: CommandOptions<'_, '_>,
     files: Vec<TokenFile>,
     outputs: &[Pair<'_>],
 ) -> Result<Request, AllocError>
@@ -241,8 +241,8 @@ fn file_of<'a>(alloc: Global, pair: Pair<'a>, bytes: Vec<u8>) -> Result<TokenFil
     ensures fault { IfErr result (IsNoFileOf pair.entry bytes.items) }
 {
     let (place, count) = (pair.place, pair.count);
-    let body = match body_in(alloc, &pair.format, place, count, bytes.as_slice(), true) {
-        Ok(Ok(Some(body))) => body,
+    let records = match records_in(alloc, &pair.format, place, count, bytes.as_slice(), true) {
+        Ok(Ok(Some(records))) => records,
         Ok(Ok(None)) => unreachable!(),
         Ok(Err(fault)) => {
             return Err(Stop::Format(FormatStop::Head {
@@ -252,7 +252,7 @@ fn file_of<'a>(alloc: Global, pair: Pair<'a>, bytes: Vec<u8>) -> Result<TokenFil
         }
         Err(_) => return Err(Stop::Memory),
     };
-    match file_with(alloc, pair.channel, &body, bytes) {
+    match file_with(alloc, pair.channel, &records, bytes) {
         Ok(file) => Ok(file),
         Err(_) => Err(Stop::Memory),
     }
@@ -261,27 +261,27 @@ fn file_of<'a>(alloc: Global, pair: Pair<'a>, bytes: Vec<u8>) -> Result<TokenFil
 fn file_with(
     alloc: Global,
     channel: &str,
-    body: &Body,
+    records: &Records,
     bytes: Vec<u8>,
 ) -> Result<TokenFile, AllocError>
-    ensures { IfOk result (λ file. file ≡ record { channel = channel.now; layout = body.now.layout; bytes = body_bytes body.now bytes.items; rate = body.now.rate }) }
+    ensures { IfOk result (λ file. file ≡ record { channel = channel.now; layout = records.now.layout; bytes = records_bytes records.now bytes.items; rate = records.now.rate }) }
 {
     Ok(TokenFile {
         channel: text_of(alloc, channel)?,
-        layout: body.layout,
-        bytes: Listed::new(body_alone(alloc, body, bytes)?),
-        rate: body.rate,
+        layout: records.layout,
+        bytes: Listed::new(records_alone(alloc, records, bytes)?),
+        rate: records.rate,
     })
 }
 
-/// Returns the bytes of a body, without copying them if it is the whole file.
-fn body_alone(alloc: Global, body: &Body, bytes: Vec<u8>) -> Result<Vec<u8>, AllocError>
-    ensures { IfOk result (λ alone. alone.items ≡ body_bytes body.now bytes.items) }
+/// Returns the bytes of the records, without copying them if they are the whole file.
+fn records_alone(alloc: Global, records: &Records, bytes: Vec<u8>) -> Result<Vec<u8>, AllocError>
+    ensures { IfOk result (λ alone. alone.items ≡ records_bytes records.now bytes.items) }
 {
-    if body.start == 0 && body.size.is_none() {
+    if records.start == 0 && records.size.is_none() {
         return Ok(bytes);
     }
-    Vec::from_slice(alloc, body_of(bytes.as_slice(), body))
+    Vec::from_slice(alloc, records_of(bytes.as_slice(), records))
 }
 
 /// Reads a file.

@@ -8,7 +8,7 @@ use crate::reading::{Asked, ReadError};
 use crate::uses::Use;
 use hox_args::WordsFault;
 use hox_network::Fault;
-use kpn_front::{Refused, Status};
+use kpn_front::{ExitStatus, Refused};
 use kpn_net::NetFault;
 use std::alloc::Global;
 use std::io;
@@ -31,7 +31,7 @@ pub enum Stop<'a> {
     /// The file for a channel's tokens can't be read.
     Unread { file: &'a str, error: ReadError },
     /// The request failed.
-    Refused(Refusal<'a>),
+    Refused(RefusedRequest<'a>),
     /// Out of memory.
     Memory,
 }
@@ -39,7 +39,7 @@ pub enum Stop<'a> {
 /// The description's file, the request, and why it failed; and the system's reason, if the file can't be
 /// read. The fault `Input` without such a reason means that the file is too long.
 #[derive(Drop)]
-pub struct Refusal<'a> {
+pub struct RefusedRequest<'a> {
     pub file: &'a str,
     pub asked: Asked<'a>,
     pub fault: Fault,
@@ -55,21 +55,22 @@ pub struct Unserved {
 
 impl<'a> Stop<'a> {
     /// Returns the program's exit status.
-    pub fn status(&self) -> Status
+    pub fn status(&self) -> ExitStatus
         ensures { result ≡ status_of_stop self.now }
     {
         match self {
             Stop::Words(fault) => fault.status(),
-            Stop::NoPair { .. } | Stop::InputTwice | Stop::Clash { .. } => Status::WrongArguments,
+            Stop::NoPair { .. } | Stop::InputTwice | Stop::Clash { .. } =>
+                ExitStatus::WrongArguments,
             Stop::Format(stop) => status_of_format(*stop),
             Stop::Unread { error, .. } => status_of_unread(*error),
             Stop::Refused(refusal) => refusal.fault.status(),
-            Stop::Memory => Status::MemoryRefused,
+            Stop::Memory => ExitStatus::MemoryRefused,
         }
     }
 }
 
-fn status_of_format(stop: FormatStop<'_>) -> Status
+fn status_of_format(stop: FormatStop<'_>) -> ExitStatus
     ensures { result ≡ status_of_format stop.entry }
 {
     match stop {
@@ -77,17 +78,17 @@ fn status_of_format(stop: FormatStop<'_>) -> Status
         | FormatStop::NoUse(_)
         | FormatStop::Twice(_)
         | FormatStop::Alone { .. }
-        | FormatStop::Unlike { .. } => Status::WrongArguments,
-        FormatStop::Head { .. } => Status::Refused,
+        | FormatStop::Unlike { .. } => ExitStatus::WrongArguments,
+        FormatStop::Head { .. } => ExitStatus::Refused,
     }
 }
 
-fn status_of_unread(error: ReadError) -> Status
+fn status_of_unread(error: ReadError) -> ExitStatus
     ensures { result ≡ status_of_unread error }
 {
     match error {
-        ReadError::Memory => Status::MemoryRefused,
-        ReadError::Failed(_) | ReadError::TooLong => Status::Refused,
+        ReadError::Memory => ExitStatus::MemoryRefused,
+        ReadError::Failed(_) | ReadError::TooLong => ExitStatus::Refused,
     }
 }
 

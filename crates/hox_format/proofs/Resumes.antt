@@ -5,8 +5,8 @@ use Rattle.std.proofs.lemmas.Bool.{cases_lt}
 use Rattle.std.proofs.lemmas.List.{drop-append-le, drop-drop, drop_all, length-take-le, take-append-drop, take-append-le, take_all, take_at}
 use Rattle.std.specs.Io.KnownBytes.{Consumes, IsAtEnd, prepend_known}
 use Rattle.std.specs.Option.{option_map_or}
-use Rattle.hox_format.specs.declared.bodies.Body.{Body}
-use Rattle.hox_format.specs.Bodies.{body_bytes, sized}
+use Rattle.hox_format.specs.declared.records.Records.{Records}
+use Rattle.hox_format.specs.Records.{records_bytes, sized}
 use Rattle.hox_format.specs.declared.resuming.BeginFault.{BeginFault}
 use Rattle.hox_format.specs.declared.resuming.BeginFault.TheVariants.{Head, Memory, Unread}
 use Rattle.hox_format.specs.Forms.{Form}
@@ -136,13 +136,13 @@ unbegun form place count known (Unread error) h = tt
 unbegun form place count known Memory h = tt
 
 -- what is left from where the records begin
-pub body_left : (body : Body) (known : Option (List ℕ)) (held : List ℕ) (last : Bool) (rem : Option (List ℕ)) → body.start ≤ length held → IsFrontOf known held last rem
-    → IfSome known (λ bytes. IsFront held bytes last × (left_in body.size (drop body.start held) rem ≡ Some (body_bytes body bytes)))
-body_left body None held last rem few front = tt
-body_left body (Some bytes) held last None few front = absurd front.read
-body_left body (Some bytes) held last (Some ys) few front = (
+pub records_left : (records : Records) (known : Option (List ℕ)) (held : List ℕ) (last : Bool) (rem : Option (List ℕ)) → records.start ≤ length held → IsFrontOf known held last rem
+    → IfSome known (λ bytes. IsFront held bytes last × (left_in records.size (drop records.start held) rem ≡ Some (records_bytes records bytes)))
+records_left records None held last rem few front = tt
+records_left records (Some bytes) held last None few front = absurd front.read
+records_left records (Some bytes) held last (Some ys) few front = (
   front_of (Some bytes) held last (Some ys) front,
-  ap (λ l. Some l) (sized_drop body.size body.start bytes held ys few front.read),
+  ap (λ l. Some l) (sized_drop records.size records.start bytes held ys few front.read),
 )
 
 -- what holds of known bytes in two parts

@@ -6,10 +6,10 @@ use Rattle.kpn_tokens.specs.declared.heads.WavHead.{WavHead}
 use Rattle.kpn_tokens.specs.declared.layouts.Width.{Width}
 use Rattle.kpn_tokens.specs.Heads.{IsWavHead, chunk_size, if_filled, is_pcm, number_at, width_of, width_told}
 use Rattle.kpn_tokens.specs.Samples.{bytes_in}
-use Rattle.hox_format.specs.declared.bodies.HeadFault.{HeadFault}
-use Rattle.hox_format.specs.declared.bodies.HeadFault.TheVariants.{Wav, NoColumn, Names, Channels, NoChannel, TooLong, TooWide}
+use Rattle.hox_format.specs.declared.records.HeadFault.{HeadFault}
+use Rattle.hox_format.specs.declared.records.HeadFault.TheVariants.{Wav, NoColumn, Names, Channels, NoChannel, TooLong, TooWide}
 use Rattle.hox_format.specs.declared.formats.Wav.{Wav as WavFile}
-use Rattle.hox_format.specs.Bodies.{IsChannelResult, IsWavBody}
+use Rattle.hox_format.specs.Records.{AreWavRecords, IsChannelResult}
 
 module _ (bytes : List ℕ) (small : (i : ℕ) → get_or bytes i 0 < 256) where
   -- a number of two bytes
@@ -37,7 +37,7 @@ module _ (bytes : List ℕ) (small : (i : ℕ) → get_or bytes i 0 < 256) where
 
   -- what is wrong with a channel of a WAV file
   pub refused_channel : (wav : WavFile) (place count : ℕ) (last : Bool) (head : WavHead) (fault : HeadFault) → IsWavHead bytes head → IsChannelResult wav place count head (Err fault)
-      → IsWavBody wav place count bytes last (Err fault)
+      → AreWavRecords wav place count bytes last (Err fault)
   refused_channel wav place count last head (Wav fault) is h = absurd h
   refused_channel wav place count last head NoColumn is h = h
   refused_channel wav place count last head (Names fault) is h = h

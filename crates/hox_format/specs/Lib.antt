@@ -1,6 +1,6 @@
 pub mod Forms
 pub mod Saying
-pub mod Bodies
+pub mod Records
 pub mod Heads
 pub mod Resuming
 pub mod Tables

@@ -2,11 +2,11 @@
 use Rattle.std.specs.Prelude.{◌≡◌, ℕ, Bool, true, List, drop, length, take, Option, Some, IfSome, option_map, Ok, Err}
 use Rattle.std.specs.Io.KnownBytes.{Consumes, IsAtEnd, prepend_known}
 use Rattle.kpn_tokens.specs.declared.layouts.Layout.{Layout}
-use Rattle.hox_format.specs.declared.bodies.Body.{Body}
+use Rattle.hox_format.specs.declared.records.Records.{Records}
 use Rattle.hox_format.specs.declared.resumed.Resumed.{Resumed}
 use Rattle.hox_format.specs.declared.resuming.BeginFault.{BeginFault}
 use Rattle.hox_format.specs.declared.resuming.BeginFault.TheVariants.{Head, Memory, Unread}
-use Rattle.hox_format.specs.Bodies.{IsBodyResult, body_bytes, sized}
+use Rattle.hox_format.specs.Records.{IsRecordsResult, records_bytes, sized}
 use Rattle.hox_format.specs.Forms.{Form}
 
 -- what is left to read of a file: the held bytes, then the source, up to a size
@@ -32,16 +32,16 @@ pub record IsFront (front bytes : List ℕ) (last : Bool) : Type 0 where
 pub record IsBegun (form : Form) (place count : ℕ) (known : Option (List ℕ)) (layout : Layout) (rate : Option ℕ) (left : Option (List ℕ)) : Type 0 where
   pub front : List ℕ
   pub last : Bool
-  pub body : Body
-  pub tells : IsBodyResult form place count front last (Ok (Some body))
+  pub records : Records
+  pub tells : IsRecordsResult form place count front last (Ok (Some records))
   pub fronts : IfSome known (λ bytes. IsFront front bytes last)
-  pub layout_is : layout ≡ body.layout
-  pub rate_is : rate ≡ body.rate
-  pub left_is : IfSome known (λ bytes. left ≡ Some (body_bytes body bytes))
+  pub layout_is : layout ≡ records.layout
+  pub rate_is : rate ≡ records.rate
+  pub left_is : IfSome known (λ bytes. left ≡ Some (records_bytes records bytes))
 
 -- why a file was not opened: its first bytes determine a fault before its records; or a read failed, or out of memory
 abbrev pub IsUnbegun : Form → ℕ → ℕ → Option (List ℕ) → BeginFault → Type 0
-IsUnbegun form place count known (Head fault) = (front : List ℕ) × (last : Bool) × IsBodyResult form place count front last (Err fault) × IfSome known (λ bytes. IsFront front bytes last)
+IsUnbegun form place count known (Head fault) = (front : List ℕ) × (last : Bool) × IsRecordsResult form place count front last (Err fault) × IfSome known (λ bytes. IsFront front bytes last)
 IsUnbegun form place count known (Unread error) = Unit {0}
 IsUnbegun form place count known Memory = Unit {0}
 

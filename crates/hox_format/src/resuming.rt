@@ -3,8 +3,8 @@ ghost use Rattle.std.specs.Prelude.{◌≡◌, ◌≤◌, ◌++◌, ℕ, List, f
 ghost use Rattle.hox_format.specs.Forms.{form};
 ghost use Rattle.hox_format.specs.Resuming.{IsBegun, IsFrontOf, IsNoHead, IsUnbegun, left_in, left_of, resumed_has_failed, source_of};
 
-use crate::bodies::{Body, HeadFault, body_in};
 use crate::formats::Format;
+use crate::records::{HeadFault, Records, records_in};
 use crate::resumed::Resumed;
 use kpn_front::Source;
 use kpn_tokens::Layout;
@@ -59,7 +59,7 @@ pub fn begin<S: Source + Drop>(
         is_last: false,
     };
     'pieces: for _ in 0..u64::MAX {
-        match body_in(
+        match records_in(
             alloc,
             format,
             place,
@@ -67,7 +67,7 @@ pub fn begin<S: Source + Drop>(
             front.held.as_slice(),
             front.is_last,
         ) {
-            Ok(Ok(Some(body))) => return Ok(resumed_at(front, body)),
+            Ok(Ok(Some(records))) => return Ok(resumed_at(front, records)),
             Ok(Ok(None)) => read_on(&mut front)?,
             Ok(Err(fault)) => return Err(BeginFault::Head(fault)),
             Err(_) => return Err(BeginFault::Memory),
@@ -84,12 +84,12 @@ struct Front<S> {
     is_last: bool,
 }
 
-fn resumed_at<S: Source>(front: Front<S>, body: Body) -> Begun<Resumed<S>>
-    requires { body.start ≤ vec_len front.held }
-    ensures left { left_of S.remaining result.source ≡ left_in body.size (drop body.start front.held.items) (S.remaining front.source) }
+fn resumed_at<S: Source>(front: Front<S>, records: Records) -> Begun<Resumed<S>>
+    requires { records.start ≤ vec_len front.held }
+    ensures left { left_of S.remaining result.source ≡ left_in records.size (drop records.start front.held.items) (S.remaining front.source) }
     ensures failed { resumed_has_failed S.has_failed result.source ≡ S.has_failed front.source }
-    ensures layout { result.layout ≡ body.layout }
-    ensures rate { result.rate ≡ body.rate }
+    ensures layout { result.layout ≡ records.layout }
+    ensures rate { result.rate ≡ records.rate }
 {
     let Front {
         held,
@@ -99,12 +99,12 @@ fn resumed_at<S: Source>(front: Front<S>, body: Body) -> Begun<Resumed<S>>
     Begun {
         source: Resumed {
             held,
-            next: body.start,
+            next: records.start,
             source,
-            left: body.size,
+            left: records.size,
         },
-        layout: body.layout,
-        rate: body.rate,
+        layout: records.layout,
+        rate: records.rate,
     }
 }
 

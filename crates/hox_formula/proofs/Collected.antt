@@ -9,7 +9,7 @@ use Rattle.hox_formula.specs.declared.symbol.Mark.{Mark}
 use Rattle.hox_formula.specs.declared.symbol.Mark.TheVariants as mark
 use Rattle.hox_formula.specs.declared.symbol.Symbol.{Symbol}
 use Rattle.hox_formula.specs.declared.symbol.Symbol.TheVariants.{Number, Output, State}
-use Rattle.hox_formula.specs.declared.head.Head.{Head}
+use Rattle.hox_formula.specs.declared.left_side.LeftSide.{LeftSide}
 use Rattle.hox_formula.specs.declared.fragment.Fragment.{Fragment}
 use Rattle.hox_formula.specs.declared.lines.Assignment.{Assignment}
 use Rattle.hox_formula.specs.declared.lines.Lines.{Lines}
@@ -61,7 +61,7 @@ below_read i n symbols more behind further left open_is minus_is number_is close
   says = below i n;
 }
 
-pub head_along : (symbols others left : List Symbol) (head : Head) → symbols ≡ others → HeadRead others left head → HeadRead symbols left head
+pub head_along : (symbols others left : List Symbol) (head : LeftSide) → symbols ≡ others → HeadRead others left head → HeadRead symbols left head
 head_along symbols others left head same r = record { taken = r.taken; split = same ∙ r.split; says = r.says }
 
 module _ (names : Naming) where
@@ -107,10 +107,10 @@ module _ (names : Naming) where
     says = subst (λ (zs : List Symbol). SaysLines names zs (l.line ∷ ls.lines)) (sym (l.split ∙ ap (λ (zs : List Symbol). l.taken ++ zs) semicolon_is)) (line l.taken more l.line ls.lines l.says ls.says);
     performs = performs_line r.code.items a.fragment.code.items others.code.items l.line ls.lines
         (code ∙ ap (λ (k : ℕ). a.fragment.code.items ++ (Store k ∷ others.code.items)) l.place) l.means.computes ls.performs;
-    heads = heads ∙ ap (λ (h : Head). h ∷ others.heads.items) l.head ∙ ap (λ (hs : List Head). l.line.head ∷ hs) ls.heads;
+    heads = heads ∙ ap (λ (h : LeftSide). h ∷ others.heads.items) l.head ∙ ap (λ (hs : List LeftSide). l.line.head ∷ hs) ls.heads;
     words = λ k small. words k small ∙ ap (λ (b : Bool). b || get_or others.words k false) (l.means.knows.words k small) ∙ ap (λ (b : Bool). uses k l.line.expression || b) (ls.words k small);
     flags = λ k small. flags k small
-        ∙ ap (λ (h : Head). (not (is_output k h.target) || a.fragment.facts.is_flag) && get_or others.flags k true) l.head
+        ∙ ap (λ (h : LeftSide). (not (is_output k h.target) || a.fragment.facts.is_flag) && get_or others.flags k true) l.head
         ∙ ap (λ (b : Bool). (not (is_output k l.line.head.target) || b) && get_or others.flags k true) l.means.knows.is_flag
         ∙ ap (λ (b : Bool). (not (is_output k l.line.head.target) || is_flag l.line.expression) && b) (ls.flags k small);
   }

@@ -7,7 +7,7 @@ use Rattle.kpn_formula.specs.declared.shape.Shape.{Shape}
 use Rattle.kpn_formula.specs.Programs.{Working, run, values_after}
 use Rattle.kpn_formula.specs.Cards.{round_of, opening_of}
 use Rattle.kpn_formula.specs.Encoding.{IsCardOf}
-use Rattle.hox_formula.specs.declared.head.Head.{Head}
+use Rattle.hox_formula.specs.declared.left_side.LeftSide.{LeftSide}
 use Rattle.hox_formula.specs.declared.symbol.Symbol.{Symbol}
 use Rattle.hox_formula.specs.declared.lines.Lines.{Lines}
 use Rattle.hox_formula.specs.Grammar.{Naming}
@@ -41,13 +41,13 @@ compiled names symbols r read round opening shape card round_is opens few shape_
   round = λ vs. ap (λ (c : List Instruction). values_after c vs) (is.round_is ∙ round_is) ∙ performed r.code.items read.lines read.performs vs;
   opening = ap (λ (c : List Instruction). values_after c (replicate 6 0)) is.opening_is
       ∙ opened opening (map (first_start r.heads.items) names.states) (length names.states) (many (first_start r.heads.items) names.states) few opens
-      ∙ ap (λ (hs : List Head). map (first_start hs) names.states ++ replicate (6 - length names.states) 0) read.heads;
+      ∙ ap (λ (hs : List LeftSide). map (first_start hs) names.states ++ replicate (6 - length names.states) 0) read.heads;
   shaped = is.shaped ∙ ap (λ (s : Shape). Some s) shape_is;
 }
 
 pub named_by :
-    (guessed names : Naming) (symbols targets : List Symbol) (heads : List Head) (lines : List Line) → guessed ≡ names → IsNaming names symbols targets
+    (guessed names : Naming) (symbols targets : List Symbol) (heads : List LeftSide) (lines : List Line) → guessed ≡ names → IsNaming names symbols targets
     → targets ≡ map target_of heads → heads ≡ map head_of lines → IsNaming guessed symbols (map target_of (map head_of lines))
 named_by guessed names symbols targets heads lines same naming targets_are heads_are =
     subst (λ (ns : Naming). IsNaming ns symbols (map target_of (map head_of lines))) (sym same)
-    (subst (λ (ts : List Symbol). IsNaming names symbols ts) (targets_are ∙ ap (λ (hs : List Head). map target_of hs) heads_are) naming)
+    (subst (λ (ts : List Symbol). IsNaming names symbols ts) (targets_are ∙ ap (λ (hs : List LeftSide). map target_of hs) heads_are) naming)

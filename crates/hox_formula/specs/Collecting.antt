@@ -3,7 +3,7 @@ use Rattle.std.specs.Prelude.{◌≡◌, ℕ, ◌<◌, false, true, List, [], �
 use Rattle.kpn_formula.specs.declared.instruction.Instruction.{Instruction}
 use Rattle.kpn_formula.specs.Programs.{run}
 use Rattle.hox_formula.specs.declared.symbol.Symbol.{Symbol}
-use Rattle.hox_formula.specs.declared.head.Head.{Head}
+use Rattle.hox_formula.specs.declared.left_side.LeftSide.{LeftSide}
 use Rattle.hox_formula.specs.declared.lines.Assignment.{Assignment}
 use Rattle.hox_formula.specs.declared.lines.Lines.{Lines}
 use Rattle.hox_formula.specs.Grammar.{Naming}
@@ -11,7 +11,7 @@ use Rattle.hox_formula.specs.Fragments.{working, Means}
 use Rattle.hox_formula.specs.Formulas.{Line, SaysHead, SaysLine, SaysLines, after, head_of, uses_in, gives_flags}
 
 -- the symbols before those that are left say to what a line assigns
-pub record HeadRead (symbols left : List Symbol) (head : Head) : Type 0 where
+pub record HeadRead (symbols left : List Symbol) (head : LeftSide) : Type 0 where
   pub taken : List Symbol
   pub split : symbols ≡ taken ++ left
   pub says : SaysHead taken head

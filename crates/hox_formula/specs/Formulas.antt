@@ -11,13 +11,13 @@ use Rattle.kpn_signals.specs.Arithmetic.{difference}
 use Rattle.hox_formula.specs.declared.symbol.Mark.TheVariants as mark
 use Rattle.hox_formula.specs.declared.symbol.Symbol.{Symbol}
 use Rattle.hox_formula.specs.declared.symbol.Symbol.TheVariants.{Number, Input, Output, State}
-use Rattle.hox_formula.specs.declared.head.Head.{Head}
+use Rattle.hox_formula.specs.declared.left_side.LeftSide.{LeftSide}
 use Rattle.hox_formula.specs.Expressions.{Expression, value, is_flag, uses}
 use Rattle.hox_formula.specs.Grammar.{Naming, Says, place_of, sign}
 
 -- an assignment: to what and with which start value, the place of that, and what it becomes
 pub record Line : Type 0 where
-  pub head : Head
+  pub head : LeftSide
   pub place : ℕ
   pub expression : Expression
 
@@ -27,7 +27,7 @@ after [] vs = vs
 after (l ∷ ls) vs = after ls (set vs l.place (value l.expression vs))
 
 -- symbols say to what a line assigns, and the start value
-pub data SaysHead : List Symbol → Head → Type 0 where
+pub data SaysHead : List Symbol → LeftSide → Type 0 where
   output : (k : ℕ) → SaysHead (Output k ∷ []) (record { target = Output k; start = None })
   state : (i : ℕ) → SaysHead (State i ∷ []) (record { target = State i; start = None })
   started : (i n : ℕ) → SaysHead (State i ∷ sign mark.Open ∷ Number n ∷ sign mark.Close ∷ []) (record { target = State i; start = Some n })
@@ -47,10 +47,10 @@ pub data SaysLines (names : Naming) : List Symbol → List Line → Type 0 where
   none : SaysLines names [] []
   line : (xs ys : List Symbol) (l : Line) (ls : List Line) → SaysLine names xs l → SaysLines names ys ls → SaysLines names (xs ++ (sign mark.Semicolon ∷ ys)) (l ∷ ls)
 
-abbrev pub head_of : Line → Head
+abbrev pub head_of : Line → LeftSide
 head_of l = l.head
 
-abbrev pub target_of : Head → Symbol
+abbrev pub target_of : LeftSide → Symbol
 target_of h = h.target
 
 abbrev pub is_input : ℕ → Symbol → Bool
@@ -98,7 +98,7 @@ abbrev pub is_state : ℕ → Symbol → Bool
 is_state i (State j) = j == i
 is_state i _ = false
 
-abbrev pub first_start : List Head → ℕ → ℕ
+abbrev pub first_start : List LeftSide → ℕ → ℕ
 first_start [] i = 0
 first_start (h ∷ hs) i = if is_state i h.target then unwrap_or h.start 0 else first_start hs i
 

@@ -8,8 +8,8 @@ ghost use Rattle.hox_formula.specs.Collecting.{LinesRead};
 ghost use Rattle.hox_formula.specs.Compiling.{Opens};
 
 use crate::expression::Parser;
-use crate::fault::{Stop, Wrong};
-use crate::head::Head;
+use crate::fault::{ParseFault, Wrong};
+use crate::left_side::LeftSide;
 use crate::lines::Lines;
 use crate::names::Names;
 use crate::naming::{names_of, targets_of};
@@ -31,7 +31,7 @@ fn is_state(name: usize, symbol: Symbol) -> bool
 }
 
 /// Returns what a state is at first.
-fn first_start(heads: &[Head], state: usize) -> u64
+fn first_start(heads: &[LeftSide], state: usize) -> u64
     ensures { result ≡ first_start heads.now state }
 {
     for head in heads {
@@ -55,7 +55,7 @@ fn split_state(states: &[usize]) -> Option<(usize, &[usize])>
 fn opening_code(
     alloc: Global,
     states: &[usize],
-    heads: &[Head],
+    heads: &[LeftSide],
     place: u8,
 ) -> Result<Vec<Instruction>, AllocError>
     requires { place + length states.now ≤ 6 }
@@ -146,7 +146,7 @@ fn shape(names: &Names, words: [bool; 6], flags: [bool; 3]) -> Shape
     Shape { states, ins, outs }
 }
 
-fn targets_of_heads(alloc: Global, heads: &[Head]) -> Result<Vec<Symbol>, AllocError>
+fn targets_of_heads(alloc: Global, heads: &[LeftSide]) -> Result<Vec<Symbol>, AllocError>
     ensures { IfOk result (λ targets. targets.items ≡ map (λ head. head.target) heads.now) }
 {
     heads.iter().map(|head| head.target).collect(alloc)
@@ -199,7 +199,7 @@ fn surplus(states: usize, inputs: usize, outputs: usize) -> usize
 }
 
 /// Whether a start value stands behind another assignment of its state.
-fn starts_late(heads: &[Head]) -> bool {
+fn starts_late(heads: &[LeftSide]) -> bool {
     for (k, head) in heads.iter().enumerate() {
         let earlier = heads.iter().take(k).any(|other| is_same(*other, *head));
         if earlier && head.start.is_some() {
@@ -209,12 +209,12 @@ fn starts_late(heads: &[Head]) -> bool {
     false
 }
 
-fn is_same(first: Head, second: Head) -> bool {
+fn is_same(first: LeftSide, second: LeftSide) -> bool {
     first.target == second.target
 }
 
 /// Returns the lines of a formula, with its names.
-fn formula_of(alloc: Global, symbols: &[Symbol]) -> Result<(Names, Lines), Stop>
+fn formula_of(alloc: Global, symbols: &[Symbol]) -> Result<(Names, Lines), ParseFault>
     ensures { IfOk result (λ r. (read : LinesRead (naming r.0) symbols.now r.1) × IsNaming (naming r.0) symbols.now (map target_of (map head_of read.lines))) }
 {
     let guessed = names_of(alloc, symbols, &targets_of(alloc, symbols)?)?;
@@ -228,26 +228,26 @@ fn formula_of(alloc: Global, symbols: &[Symbol]) -> Result<(Names, Lines), Stop>
     let targets = targets_of_heads(alloc, &lines.heads)?;
     let names = names_of(alloc, symbols, &targets)?;
     if !are_same(&guessed, &names) {
-        return Err(Stop::at(&[], Wrong::UnknownName));
+        return Err(ParseFault::at(&[], Wrong::UnknownName));
     }
     Ok((guessed, lines))
 }
 
 /// Returns the card of a formula's symbols, where a `;` stands behind each line.
-pub fn card_of_symbols(alloc: Global, symbols: &[Symbol]) -> Result<Card, Stop>
+pub fn card_of_symbols(alloc: Global, symbols: &[Symbol]) -> Result<Card, ParseFault>
     ensures { IfOk result (λ card. (names : Naming) × (lines : List Line) × IsFormula names symbols.now lines × IsCompiled names lines card) }
 {
     let (names, lines) = formula_of(alloc, symbols)?;
     if starts_late(&lines.heads) {
-        return Err(Stop::at(&[], Wrong::GivenTwice));
+        return Err(ParseFault::at(&[], Wrong::GivenTwice));
     }
     let opening = opening_code(alloc, &names.states, &lines.heads, 0)?;
     let shape = shape(&names, lines.words, lines.flags);
     if !are_encodable(&lines.code) || !are_encodable(&opening) {
-        return Err(Stop::at(&[], wrong_of(Excess::NotAllowed, shape)));
+        return Err(ParseFault::at(&[], wrong_of(Excess::NotAllowed, shape)));
     }
     match card_of(shape, &lines.code, &opening) {
         Ok(card) => Ok(card),
-        Err(excess) => Err(Stop::at(&[], wrong_of(excess, shape))),
+        Err(excess) => Err(ParseFault::at(&[], wrong_of(excess, shape))),
     }
 }

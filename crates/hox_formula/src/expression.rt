@@ -6,7 +6,7 @@ ghost use Rattle.hox_formula.specs.Grammar.{level_of, joined, sign, is_front, fr
 ghost use Rattle.hox_formula.specs.Fragments.{Means};
 ghost use Rattle.hox_formula.specs.Parsing.{naming, Parsed};
 
-use crate::fault::{Expected, Stop, Wrong};
+use crate::fault::{Expected, ParseFault, Wrong};
 use crate::fragment::Fragment;
 use crate::names::Names;
 use crate::places::place;
@@ -82,12 +82,12 @@ pub fn after(symbols: &[Symbol], mark: Mark) -> Option<&[Symbol]>
 }
 
 /// Returns the symbols behind a sign, which has to come first.
-pub fn expect(symbols: &[Symbol], mark: Mark, expected: Expected) -> Result<&[Symbol], Stop>
+pub fn expect(symbols: &[Symbol], mark: Mark, expected: Expected) -> Result<&[Symbol], ParseFault>
     ensures { IfOk result (λ rest. symbols.now ≡ sign mark ∷ rest.now) }
 {
     match after(symbols, mark) {
         Some(rest) => Ok(rest),
-        None => Err(Stop::at(symbols, Wrong::Expected(expected))),
+        None => Err(ParseFault::at(symbols, Wrong::Expected(expected))),
     }
 }
 
@@ -158,11 +158,11 @@ fn called(mark: Mark) -> Option<Operation>
 }
 
 /// Returns how much deeper the nesting may go below the symbols.
-fn deeper(symbols: &[Symbol], depth: u8) -> Result<u8, Stop>
+fn deeper(symbols: &[Symbol], depth: u8) -> Result<u8, ParseFault>
     ensures { IfOk result (λ d. d + 1 ≡ depth) }
 {
     if depth == 0 {
-        return Err(Stop::at(symbols, Wrong::TooDeep));
+        return Err(ParseFault::at(symbols, Wrong::TooDeep));
     }
     Ok(depth - 1)
 }
@@ -189,7 +189,7 @@ impl<'a> Parser<'a> {
         &self,
         symbols: &'s [Symbol],
         depth: u8,
-    ) -> Result<(Fragment, &'s [Symbol]), Stop>
+    ) -> Result<(Fragment, &'s [Symbol]), ParseFault>
         ensures { IfOk result (λ r. Parsed (naming self.now.names.now) 0 symbols.now r.1.now r.0) }
     {
         let (condition, rest) = self.level(symbols, 1, depth)?;
@@ -206,7 +206,7 @@ impl<'a> Parser<'a> {
         condition: Fragment,
         symbols: &'s [Symbol],
         depth: u8,
-    ) -> Result<(Fragment, &'s [Symbol]), Stop>
+    ) -> Result<(Fragment, &'s [Symbol]), ParseFault>
         ensures { IfOk result (λ r. (xs : List Symbol) (c : Expression) → Says (naming self.now.names.now) 1 xs c → Means condition c → Parsed (naming self.now.names.now) 0 (xs ++ (sign Mark.Question ∷ symbols.now)) r.1.now r.0) }
     {
         let depth = deeper(symbols, depth)?;
@@ -223,7 +223,7 @@ impl<'a> Parser<'a> {
         symbols: &'s [Symbol],
         level: u8,
         depth: u8,
-    ) -> Result<(Fragment, &'s [Symbol]), Stop>
+    ) -> Result<(Fragment, &'s [Symbol]), ParseFault>
         requires { (0 < level) × (level ≤ 11) }
         ensures { IfOk result (λ r. Parsed (naming self.now.names.now) level symbols.now r.1.now r.0) }
     {
@@ -241,7 +241,11 @@ impl<'a> Parser<'a> {
 
     // Reads what holds together by itself, with operators in front.
     #[cycle(expression)]
-    fn unary<'s>(&self, symbols: &'s [Symbol], depth: u8) -> Result<(Fragment, &'s [Symbol]), Stop>
+    fn unary<'s>(
+        &self,
+        symbols: &'s [Symbol],
+        depth: u8,
+    ) -> Result<(Fragment, &'s [Symbol]), ParseFault>
         ensures { IfOk result (λ r. Parsed (naming self.now.names.now) 11 symbols.now r.1.now r.0) }
     {
         let Some((mark, rest)) = front_operator(symbols) else {
@@ -258,18 +262,18 @@ impl<'a> Parser<'a> {
         &self,
         symbols: &'s [Symbol],
         depth: u8,
-    ) -> Result<(Fragment, &'s [Symbol]), Stop>
+    ) -> Result<(Fragment, &'s [Symbol]), ParseFault>
         ensures { IfOk result (λ r. Parsed (naming self.now.names.now) 12 symbols.now r.1.now r.0) }
     {
         let Some((first, rest)) = front(symbols) else {
-            return Err(Stop::at(symbols, Wrong::Expected(Expected::Operand)));
+            return Err(ParseFault::at(symbols, Wrong::Expected(Expected::Operand)));
         };
         match first {
             Symbol::Number(number) => Ok((Fragment::number(self.alloc, number)?, rest)),
             Symbol::Mark(mark) => self.marked(mark, rest, depth),
             name => match place(self.names, name) {
                 Some(place) => Ok((Fragment::place(self.alloc, place)?, rest)),
-                None => Err(Stop::at(symbols, unknown(name))),
+                None => Err(ParseFault::at(symbols, unknown(name))),
             },
         }
     }
@@ -281,7 +285,7 @@ impl<'a> Parser<'a> {
         mark: Mark,
         symbols: &'s [Symbol],
         depth: u8,
-    ) -> Result<(Fragment, &'s [Symbol]), Stop>
+    ) -> Result<(Fragment, &'s [Symbol]), ParseFault>
         ensures { IfOk result (λ r. Parsed (naming self.now.names.now) 12 (sign mark ∷ symbols.now) r.1.now r.0) }
     {
         if let Some(operation) = called(mark) {
@@ -295,7 +299,7 @@ impl<'a> Parser<'a> {
                 Ok((inner, rest))
             }
             Mark::Abs => self.absolute(symbols, depth),
-            _ => Err(Stop {
+            _ => Err(ParseFault {
                 left: symbols.len() + 1,
                 wrong: Wrong::Expected(Expected::Operand),
             }),
@@ -308,7 +312,7 @@ impl<'a> Parser<'a> {
         &self,
         symbols: &'s [Symbol],
         depth: u8,
-    ) -> Result<(Fragment, &'s [Symbol]), Stop>
+    ) -> Result<(Fragment, &'s [Symbol]), ParseFault>
         ensures { IfOk result (λ r. Parsed (naming self.now.names.now) 12 (sign Mark.Abs ∷ symbols.now) r.1.now r.0) }
     {
         let depth = deeper(symbols, depth)?;
@@ -326,7 +330,7 @@ impl<'a> Parser<'a> {
         operation: Operation,
         symbols: &'s [Symbol],
         depth: u8,
-    ) -> Result<(Fragment, &'s [Symbol]), Stop>
+    ) -> Result<(Fragment, &'s [Symbol]), ParseFault>
         ensures { IfOk result (λ r. called mark ≡ Some operation → Parsed (naming self.now.names.now) 12 (sign mark ∷ symbols.now) r.1.now r.0) }
     {
         let depth = deeper(symbols, depth)?;

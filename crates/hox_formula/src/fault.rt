@@ -66,26 +66,26 @@ impl FormulaFault {
 
 /// Where the reading of symbols stopped, with how many of them left, and why.
 #[derive(Clone, Copy, Debug, PartialEq, Eq)]
-pub struct Stop {
+pub struct ParseFault {
     pub left: usize,
     pub wrong: Wrong,
 }
 
-impl Stop {
+impl ParseFault {
     /// Returns that something is wrong at the first of these symbols.
-    pub fn at(symbols: &[Symbol], wrong: Wrong) -> Stop
+    pub fn at(symbols: &[Symbol], wrong: Wrong) -> ParseFault
         ensures { result ≡ record { left = length symbols.now; wrong = wrong } }
     {
-        Stop {
+        ParseFault {
             left: symbols.len(),
             wrong,
         }
     }
 }
 
-impl From<AllocError> for Stop {
-    fn from(_: AllocError) -> Stop {
-        Stop {
+impl From<AllocError> for ParseFault {
+    fn from(_: AllocError) -> ParseFault {
+        ParseFault {
             left: 0,
             wrong: Wrong::Memory,
         }

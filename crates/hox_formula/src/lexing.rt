@@ -2,7 +2,7 @@
 ghost use Rattle.std.specs.Prelude.{◌≡◌, ℕ, ◌<◌, ◌∷◌, [], List, IfOk, OnOk, ◌++◌, false, IfSome, MatchOption, IsTrue, ◌≤◌, ◌+◌, length, Some, drop};
 ghost use Rattle.hox_formula.specs.Lexing.{is_blank, is_digit, is_word_byte, front_word, behind_word, same, pair_mark, single_mark, fixed, digit_value, number_of, word_number, begins_with_digit, is_hexadecimal, place_in, EndsWord, texts, begins_pair, begins_with_word_byte, PairAt, SpellsMark, SpellsNothing, IsPlaceOf, IsWordOf, IsNext, Spells};
 
-use crate::fault::{Stop, Wrong};
+use crate::fault::{ParseFault, Wrong};
 use crate::symbol::{Mark, Symbol};
 use std::alloc::{AllocError, Global};
 
@@ -331,7 +331,7 @@ pub struct Lexed {
 }
 
 /// Reads the symbols of a text. An error has the number of bytes that are left.
-pub fn lex(alloc: Global, text: &[u8]) -> Result<Lexed, Stop>
+pub fn lex(alloc: Global, text: &[u8]) -> Result<Lexed, ParseFault>
     ensures { IfOk result (λ r. Spells (texts r.names.items) text.now r.symbols.items) }
 {
     let mut symbols = Vec::new(alloc);
@@ -342,7 +342,7 @@ pub fn lex(alloc: Global, text: &[u8]) -> Result<Lexed, Stop>
         let (symbol, left) = match next(alloc, &mut names, rest) {
             Ok(found) => found,
             Err(wrong) => {
-                return Err(Stop {
+                return Err(ParseFault {
                     left: rest.len(),
                     wrong,
                 });

@@ -12,7 +12,7 @@ mod compiling;
 mod expression;
 pub mod fault;
 mod fragment;
-mod head;
+mod left_side;
 mod lexing;
 mod lines;
 pub mod message;

@@ -1,12 +1,12 @@
 //! What is read of lines.
 use crate::fragment::Fragment;
-use crate::head::Head;
+use crate::left_side::LeftSide;
 use kpn_formula::Instruction;
 
 /// A line: what is assigned to, its place, and the code of what it becomes.
 #[derive(Drop)]
 pub struct Assignment {
-    pub head: Head,
+    pub head: LeftSide,
     pub place: u8,
     pub fragment: Fragment,
 }
@@ -16,7 +16,7 @@ pub struct Assignment {
 pub struct Lines {
     /// Does what the lines say.
     pub code: Vec<Instruction>,
-    pub heads: Vec<Head>,
+    pub heads: Vec<LeftSide>,
     /// Which values are used as words, by place.
     pub words: [bool; 6],
     /// Which outputs become flags alone.

@@ -4,7 +4,7 @@ ghost use Rattle.std.specs.List.{list_any};
 ghost use Rattle.hox_formula.specs.Parsing.{naming};
 ghost use Rattle.hox_formula.specs.Formulas.{AreFirst, IsNaming, is_input, is_output, with_state, with_states, states_of};
 
-use crate::fault::{Stop, Wrong};
+use crate::fault::{ParseFault, Wrong};
 use crate::names::Names;
 use crate::reading::is_output;
 use crate::symbol::{Mark, Symbol};
@@ -116,19 +116,19 @@ pub fn targets_of(alloc: Global, symbols: &[Symbol]) -> Result<Vec<Symbol>, Allo
 }
 
 /// Returns the names of a formula with these symbols and targets.
-pub fn names_of(alloc: Global, symbols: &[Symbol], targets: &[Symbol]) -> Result<Names, Stop>
+pub fn names_of(alloc: Global, symbols: &[Symbol], targets: &[Symbol]) -> Result<Names, ParseFault>
     ensures { IfOk result (λ names. IsNaming (naming names) symbols.now targets.now) }
 {
     let states = states_of(alloc, targets)?;
     let Some(outputs) = count_outputs(targets) else {
-        return Err(Stop::at(&[], Wrong::Gap));
+        return Err(ParseFault::at(&[], Wrong::Gap));
     };
     let Some(inputs) = count_inputs(symbols) else {
-        return Err(Stop::at(&[], Wrong::Gap));
+        return Err(ParseFault::at(&[], Wrong::Gap));
     };
     let words = states.len() + usize::from(outputs) + usize::from(inputs);
     if words > 6 {
-        return Err(Stop::at(&[], Wrong::TooManyWords(words - 6)));
+        return Err(ParseFault::at(&[], Wrong::TooManyWords(words - 6)));
     }
     Ok(Names {
         states,

@@ -6,9 +6,9 @@ ghost use Rattle.hox_formula.specs.Formulas.{is_output};
 ghost use Rattle.hox_formula.specs.Collecting.{HeadRead, LineRead, LinesRead};
 
 use crate::expression::{DEEPEST, Parser, after, expect, front};
-use crate::fault::{Expected, Stop, Wrong};
+use crate::fault::{Expected, ParseFault, Wrong};
 use crate::fragment::{either_words, followed};
-use crate::head::Head;
+use crate::left_side::LeftSide;
 use crate::lines::{Assignment, Lines};
 use crate::places::place;
 use crate::symbol::{Mark, Symbol};
@@ -16,33 +16,33 @@ use kpn_formula::Instruction;
 use std::alloc::{AllocError, Global};
 
 /// Reads to what a line assigns.
-fn read_head(symbols: &[Symbol]) -> Result<(Head, &[Symbol]), Stop>
+fn read_head(symbols: &[Symbol]) -> Result<(LeftSide, &[Symbol]), ParseFault>
     ensures { IfOk result (λ r. HeadRead symbols.now r.1.now r.0) }
 {
     let Some((target, rest)) = front(symbols) else {
-        return Err(Stop::at(symbols, Wrong::Expected(Expected::Target)));
+        return Err(ParseFault::at(symbols, Wrong::Expected(Expected::Target)));
     };
     match target {
         Symbol::Output(_) => {
-            let head = Head {
+            let head = LeftSide {
                 target,
                 start: None,
             };
             Ok((head, rest))
         }
         Symbol::State(name) => read_start(name, rest),
-        Symbol::Input(_) => Err(Stop::at(symbols, Wrong::AssignsInput)),
-        _ => Err(Stop::at(symbols, Wrong::Expected(Expected::Target))),
+        Symbol::Input(_) => Err(ParseFault::at(symbols, Wrong::AssignsInput)),
+        _ => Err(ParseFault::at(symbols, Wrong::Expected(Expected::Target))),
     }
 }
 
 /// Reads the start value of a state, if it is given, behind the name.
-fn read_start(name: usize, symbols: &[Symbol]) -> Result<(Head, &[Symbol]), Stop>
+fn read_start(name: usize, symbols: &[Symbol]) -> Result<(LeftSide, &[Symbol]), ParseFault>
     ensures { IfOk result (λ r. HeadRead (Symbol.State name ∷ symbols.now) r.1.now r.0) }
 {
     let target = Symbol::State(name);
     let Some(rest) = after(symbols, Mark::Open) else {
-        let head = Head {
+        let head = LeftSide {
             target,
             start: None,
         };
@@ -52,7 +52,7 @@ fn read_start(name: usize, symbols: &[Symbol]) -> Result<(Head, &[Symbol]), Stop
         None => {
             let (number, rest) = read_number(rest)?;
             let rest = expect(rest, Mark::Close, Expected::Close)?;
-            let head = Head {
+            let head = LeftSide {
                 target,
                 start: Some(number),
             };
@@ -62,7 +62,7 @@ fn read_start(name: usize, symbols: &[Symbol]) -> Result<(Head, &[Symbol]), Stop
             let (number, rest) = read_number(rest)?;
             let rest = expect(rest, Mark::Close, Expected::Close)?;
             let start = 0u64.wrapping_sub(number);
-            let head = Head {
+            let head = LeftSide {
                 target,
                 start: Some(start),
             };
@@ -72,22 +72,25 @@ fn read_start(name: usize, symbols: &[Symbol]) -> Result<(Head, &[Symbol]), Stop
 }
 
 /// Reads a number.
-fn read_number(symbols: &[Symbol]) -> Result<(u64, &[Symbol]), Stop>
+fn read_number(symbols: &[Symbol]) -> Result<(u64, &[Symbol]), ParseFault>
     ensures { IfOk result (λ r. symbols.now ≡ Symbol.Number r.0 ∷ r.1.now) }
 {
     match symbols {
         [Symbol::Number(number), rest @ ..] => Ok((*number, rest)),
-        _ => Err(Stop::at(symbols, Wrong::Expected(Expected::Number))),
+        _ => Err(ParseFault::at(symbols, Wrong::Expected(Expected::Number))),
     }
 }
 
 /// Reads a line, without the `;` behind it.
-fn read_line<'s>(parser: &Parser, symbols: &'s [Symbol]) -> Result<(Assignment, &'s [Symbol]), Stop>
+fn read_line<'s>(
+    parser: &Parser,
+    symbols: &'s [Symbol],
+) -> Result<(Assignment, &'s [Symbol]), ParseFault>
     ensures { IfOk result (λ r. LineRead (naming parser.now.names.now) symbols.now r.1.now r.0) }
 {
     let (head, rest) = read_head(symbols)?;
     let Some(place) = place(parser.names, head.target) else {
-        return Err(Stop::at(symbols, Wrong::UnknownName));
+        return Err(ParseFault::at(symbols, Wrong::UnknownName));
     };
     let rest = expect(rest, Mark::Assign, Expected::Assign)?;
     let (fragment, rest) = parser.whole(rest, DEEPEST)?;
@@ -143,7 +146,7 @@ fn with_line(line: Assignment, others: Lines) -> Result<Lines, AllocError>
 }
 
 /// Reads lines, each with a `;` behind it, up to the end.
-pub fn read_lines(parser: &Parser, symbols: &[Symbol]) -> Result<Lines, Stop>
+pub fn read_lines(parser: &Parser, symbols: &[Symbol]) -> Result<Lines, ParseFault>
     ensures { IfOk result (λ r. LinesRead (naming parser.now.names.now) symbols.now r) }
 {
     if symbols.is_empty() {

@@ -3,7 +3,7 @@ ghost use Rattle.std.specs.Prelude.{◌≡◌, ◌≤◌, ◌+◌, length, IfOk,
 ghost use Rattle.hox_formula.specs.Texts.{IsCardOfText, Ends};
 
 use crate::compiling::card_of_symbols;
-use crate::fault::{FormulaFault, Stop, Wrong};
+use crate::fault::{FormulaFault, ParseFault, Wrong};
 use crate::lexing::{Lexed, Span, lex};
 use crate::symbol::{Mark, Symbol};
 use kpn_model::Card;
@@ -27,7 +27,7 @@ fn ends(symbols: &[Symbol]) -> bool {
 }
 
 /// Returns the fault where the reading of symbols stopped.
-fn at_symbol(stop: Stop, count: usize, spans: &[Span], text_length: usize) -> FormulaFault
+fn at_symbol(stop: ParseFault, count: usize, spans: &[Span], text_length: usize) -> FormulaFault
     ensures { result.at + result.length ≤ text_length }
 {
     match spans.get(count.saturating_sub(stop.left)) {
@@ -37,7 +37,7 @@ fn at_symbol(stop: Stop, count: usize, spans: &[Span], text_length: usize) -> Fo
 }
 
 /// Returns the fault where the reading of bytes stopped.
-fn at_byte(stop: Stop, text_length: usize) -> FormulaFault
+fn at_byte(stop: ParseFault, text_length: usize) -> FormulaFault
     ensures { result.at + result.length ≤ text_length }
 {
     let at = text_length.saturating_sub(stop.left);

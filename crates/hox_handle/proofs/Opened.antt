@@ -14,10 +14,10 @@ use Rattle.hox_stream.specs.Exits.{with_exits}
 use Rattle.hox_stream.specs.Starts.{IsStarted, IsStreamFault, IsNoNetwork}
 use Rattle.hox_stream.specs.declared.starting.StreamFault.{StreamFault}
 use Rattle.hox_stream.specs.declared.starting.StreamFault.TheVariants.{Description, Input, Output, Twice, Memory}
-use Rattle.hox_handle.specs.declared.opening.OpenFault.TheVariants.{NoText, Unopened}
-use Rattle.hox_handle.specs.declared.opening.OpenFault.{OpenFault}
+use Rattle.hox_handle.specs.declared.opening.SessionFault.TheVariants.{NoText, Unopened}
+use Rattle.hox_handle.specs.declared.opening.SessionFault.{SessionFault}
 use Rattle.hox_handle.specs.Names.{AreNames}
-use Rattle.hox_handle.specs.Opening.{all_named, all_ports, flow_named, flow_ports, flow_sketch, IsNoNames, IsOpenFault, IsReadAs, IsUnopened, OpensBetween}
+use Rattle.hox_handle.specs.Opening.{all_named, all_ports, flow_named, flow_ports, flow_sketch, IsNoNames, IsReadAs, IsSessionFault, IsUnopened, OpensBetween}
 use Rattle.hox_handle.specs.Sessions.{flow_kinds}
 
 module _ (text : List ℕ) (fed drained : List (List ℕ)) (sketch : Sketch) (read : IsReadAs text sketch) where
@@ -41,19 +41,19 @@ module _ (text : List ℕ) (fed drained : List (List ℕ)) (sketch : Sketch) (re
   unopened Memory whole e = tt
 
 -- why it is not opened between the channels of these names is why it is not opened
-pub open_fault : (text inputs outputs : List ℕ) (fed drained : List (List ℕ)) (fault : StreamFault) → AreNames inputs fed → AreNames outputs drained → IsUnopened text fed drained fault → IsOpenFault text inputs outputs (Unopened fault)
-open_fault text inputs outputs fed drained (Description fault) a b e = (fed, drained, a, b, e)
-open_fault text inputs outputs fed drained (Input fault) a b e = (fed, drained, a, b, e)
-open_fault text inputs outputs fed drained (Output fault) a b e = (fed, drained, a, b, e)
-open_fault text inputs outputs fed drained Twice a b e = (fed, drained, a, b, e)
-open_fault text inputs outputs fed drained Memory a b e = tt
+pub session_fault : (text inputs outputs : List ℕ) (fed drained : List (List ℕ)) (fault : StreamFault) → AreNames inputs fed → AreNames outputs drained → IsUnopened text fed drained fault → IsSessionFault text inputs outputs (Unopened fault)
+session_fault text inputs outputs fed drained (Description fault) a b e = (fed, drained, a, b, e)
+session_fault text inputs outputs fed drained (Input fault) a b e = (fed, drained, a, b, e)
+session_fault text inputs outputs fed drained (Output fault) a b e = (fed, drained, a, b, e)
+session_fault text inputs outputs fed drained Twice a b e = (fed, drained, a, b, e)
+session_fault text inputs outputs fed drained Memory a b e = tt
 
 -- a text that is too long, or can't be read
 pub unread : (text : List ℕ) (fed drained : List (List ℕ)) (fault : NetFault) → LoadsChanged delayed_of (flow_sketch text drained) flow_named flow_ports false text (Err fault) → IsUnopened text fed drained (Description fault)
 unread text fed drained fault e = record { write = λ d. d; out = nothing_out text; loads = e }
 
 -- without names there is no session
-pub unnamed : (text inputs outputs : List ℕ) (fault : OpenFault) → IsNoNames inputs fault ⊎ IsNoNames outputs fault → IsOpenFault text inputs outputs fault
+pub unnamed : (text inputs outputs : List ℕ) (fault : SessionFault) → IsNoNames inputs fault ⊎ IsNoNames outputs fault → IsSessionFault text inputs outputs fault
 unnamed text inputs outputs NoText (inl none) = inl none
 unnamed text inputs outputs NoText (inr none) = inr none
 unnamed text inputs outputs (Unopened Memory) none = tt

@@ -5,11 +5,11 @@ use Rattle.kpn_model.specs.declared.history.End.TheVariants.{Terminated, Deadloc
 use Rattle.kpn_sketch.specs.Fault.{number_of_fault}
 use Rattle.kpn_flow.specs.declared.pause.Pause.{Pause}
 use Rattle.kpn_flow.specs.declared.pause.Pause.TheVariants.{Cut, Starved, Blocked, Over}
-use Rattle.hox_handle.specs.declared.answers.Answer.{Answer}
-use Rattle.hox_handle.specs.declared.answers.Answer.TheVariants.{Done, Description, Closed, Open, NoChannel, Ended, NoFlag, NoText, NoInput, NoOutput, Twice}
+use Rattle.hox_handle.specs.declared.answers.ReturnCode.{ReturnCode}
+use Rattle.hox_handle.specs.declared.answers.ReturnCode.TheVariants.{Done, Description, Closed, Open, NoChannel, Ended, NoFlag, NoText, NoInput, NoOutput, Twice}
 
 -- 0 for success; the fault's number; else 32 to 40
-abbrev pub answer_number : Answer → ℕ
+abbrev pub answer_number : ReturnCode → ℕ
 answer_number Done = 0
 answer_number (Description fault) = number_of_fault fault
 answer_number Closed = 32

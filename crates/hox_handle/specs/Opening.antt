@@ -22,10 +22,10 @@ use Rattle.hox_stream.specs.declared.starting.StreamFault.TheVariants.{Descripti
 use Rattle.kpn_sketch.specs.declared.fault.NetFault.{NetFault}
 use Rattle.kpn_sketch.specs.declared.fault.NetFault.TheVariants.{Memory as NoMemory}
 use Rattle.hox_stream.specs.declared.starting.NameFault.TheVariants.{Memory as NoNameMemory}
-use Rattle.hox_handle.specs.declared.answers.Answer.{Answer}
-use Rattle.hox_handle.specs.declared.answers.Answer.TheVariants.{Description as AnswerOf, NoInput, NoOutput, NoText as NoTextAnswer, Twice as TwiceNamed}
-use Rattle.hox_handle.specs.declared.opening.OpenFault.{OpenFault}
-use Rattle.hox_handle.specs.declared.opening.OpenFault.TheVariants.{NoText, Unopened}
+use Rattle.hox_handle.specs.declared.answers.ReturnCode.{ReturnCode}
+use Rattle.hox_handle.specs.declared.answers.ReturnCode.TheVariants.{Description as AnswerOf, NoInput, NoOutput, NoText as NoTextAnswer, Twice as TwiceNamed}
+use Rattle.hox_handle.specs.declared.opening.SessionFault.{SessionFault}
+use Rattle.hox_handle.specs.declared.opening.SessionFault.TheVariants.{NoText, Unopened}
 use Rattle.hox_handle.specs.Names.{AreNames}
 use Rattle.hox_handle.specs.Sessions.{flow_kinds}
 
@@ -89,19 +89,19 @@ IsUnopened text fed drained (Output fault) = IsEndFault text fed drained (Output
 IsUnopened text fed drained Twice = IsEndFault text fed drained Twice
 
 -- why no session is opened
-abbrev pub IsOpenFault : List ℕ → List ℕ → List ℕ → OpenFault → Type 0
-IsOpenFault text inputs outputs NoText = (IsUtf8 inputs → ⊥) ⊎ (IsUtf8 outputs → ⊥)
-IsOpenFault text inputs outputs (Unopened Memory) = Unit {0}
-IsOpenFault text inputs outputs (Unopened fault) =
+abbrev pub IsSessionFault : List ℕ → List ℕ → List ℕ → SessionFault → Type 0
+IsSessionFault text inputs outputs NoText = (IsUtf8 inputs → ⊥) ⊎ (IsUtf8 outputs → ⊥)
+IsSessionFault text inputs outputs (Unopened Memory) = Unit {0}
+IsSessionFault text inputs outputs (Unopened fault) =
     (fed : List (List ℕ)) × (drained : List (List ℕ)) × AreNames inputs fed × AreNames outputs drained × IsUnopened text fed drained fault
 
 -- why a text has no names: it is not UTF-8, or out of memory
-abbrev pub IsNoNames : List ℕ → OpenFault → Type 0
+abbrev pub IsNoNames : List ℕ → SessionFault → Type 0
 IsNoNames text NoText = IsUtf8 text → ⊥
 IsNoNames text (Unopened Memory) = Unit {0}
 IsNoNames text (Unopened _) = ⊥
 
-abbrev pub answer_of_stream : StreamFault → Answer
+abbrev pub answer_of_stream : StreamFault → ReturnCode
 answer_of_stream (Description fault) = AnswerOf fault
 answer_of_stream (Input NoNameMemory) = AnswerOf NoMemory
 answer_of_stream (Input _) = NoInput
@@ -110,6 +110,6 @@ answer_of_stream (Output _) = NoOutput
 answer_of_stream Twice = TwiceNamed
 answer_of_stream Memory = AnswerOf NoMemory
 
-abbrev pub answer_of : OpenFault → Answer
+abbrev pub answer_of : SessionFault → ReturnCode
 answer_of NoText = NoTextAnswer
 answer_of (Unopened fault) = answer_of_stream fault

@@ -13,9 +13,9 @@ use Rattle.hox_stream.specs.Exits.{exits}
 use Rattle.kpn_flow.specs.declared.pause.Pause.{Pause}
 use Rattle.kpn_flow.specs.Flows.{FlowView, is_among, with_ended, IsSameFlow}
 use Rattle.kpn_flow.specs.Pauses.{Advances, TellWants}
-use Rattle.hox_handle.specs.declared.answers.Answer.{Answer}
-use Rattle.hox_handle.specs.declared.answers.Answer.TheVariants.{Done, NoChannel}
-use Rattle.hox_handle.specs.declared.words.Moved.{Moved}
+use Rattle.hox_handle.specs.declared.answers.ReturnCode.{ReturnCode}
+use Rattle.hox_handle.specs.declared.answers.ReturnCode.TheVariants.{Done, NoChannel}
+use Rattle.hox_handle.specs.declared.words.Transferred.{Transferred}
 use Rattle.hox_handle.specs.Words.{Feeds, Drains}
 
 -- all kinds of descriptions; below, readers that stop at once too
@@ -25,20 +25,20 @@ all_kinds = both_family (both_family standard signals) (rounds_family formula_po
 abbrev pub flow_kinds : Family
 flow_kinds = both_family all_kinds exits
 
-abbrev pub nothing_for : Answer → Moved
+abbrev pub nothing_for : ReturnCode → Transferred
 nothing_for answer = record { count = 0; answer = answer }
 
 -- words are fed into the input at this place; without one nothing changes
-abbrev pub FeedsAt : FlowView → FlowView → ℕ → List ℕ → Moved → Type 0
+abbrev pub FeedsAt : FlowView → FlowView → ℕ → List ℕ → Transferred → Type 0
 FeedsAt s t place words moved = MatchOption (slice_get s.inputs place) ((moved ≡ nothing_for NoChannel) × (t ≡ s)) (λ c. Feeds flow_kinds s t c words moved)
 
 -- words are drained from the output at this place; without one nothing changes
-abbrev pub DrainsAt : FlowView → FlowView → ℕ → List ℕ → List ℕ → Moved → Type 0
+abbrev pub DrainsAt : FlowView → FlowView → ℕ → List ℕ → List ℕ → Transferred → Type 0
 DrainsAt s t place before after moved =
     MatchOption (slice_get s.outputs place) ((moved ≡ nothing_for NoChannel) × (t ≡ s) × (after ≡ before)) (λ c. Drains flow_kinds s t c before after moved.count × (moved.answer ≡ Done))
 
 -- the input at this place has ended; without one nothing changes
-abbrev pub EndsAt : FlowView → FlowView → ℕ → Answer → Type 0
+abbrev pub EndsAt : FlowView → FlowView → ℕ → ReturnCode → Type 0
 EndsAt s t place answer = MatchOption (slice_get s.inputs place) ((answer ≡ NoChannel) × (t ≡ s)) (λ c. (answer ≡ Done) × (t ≡ with_ended s c))
 
 -- the flow runs for at most `most` entries, and returns for this reason

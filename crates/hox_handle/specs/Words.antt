@@ -8,9 +8,9 @@ use Rattle.kpn_model.specs.Network.{Family, channel_of}
 use Rattle.kpn_model.specs.Semantics.{tokens, capacity}
 use Rattle.kpn_flow.specs.Events.{Fed, Drained, Flows}
 use Rattle.kpn_flow.specs.Flows.{FlowView, IsSameFlow, is_among}
-use Rattle.hox_handle.specs.declared.answers.Answer.{Answer}
-use Rattle.hox_handle.specs.declared.answers.Answer.TheVariants.{Done, Ended, NoFlag}
-use Rattle.hox_handle.specs.declared.words.Moved.{Moved}
+use Rattle.hox_handle.specs.declared.answers.ReturnCode.{ReturnCode}
+use Rattle.hox_handle.specs.declared.answers.ReturnCode.TheVariants.{Done, Ended, NoFlag}
+use Rattle.hox_handle.specs.declared.words.Transferred.{Transferred}
 
 -- a flag is 0 or 1
 abbrev pub word_of : Token → ℕ
@@ -24,7 +24,7 @@ IsNoFlag sort word = (sort ≡ Flags) × (1 < word)
 
 -- why only the first n words were fed into c: these are all, or it is full; the next is no flag; it is no
 -- input or has ended
-abbrev pub IsFedUpTo : FlowView → ℕ → List ℕ → ℕ → Answer → Type 0
+abbrev pub IsFedUpTo : FlowView → ℕ → List ℕ → ℕ → ReturnCode → Type 0
 IsFedUpTo s c words n Done = n < length words → capacity s.state c ≤ length (tokens s.state c)
 IsFedUpTo s c words n NoFlag = (n < length words) × IsNoFlag (channel_of s.network c).sort (get_or words n 0)
 IsFedUpTo s c words n Ended = (n ≡ 0) × (is_among s.unended c ≡ false)
@@ -48,7 +48,7 @@ module _ (kinds : Family) (s t : FlowView) (c : ℕ) where
     pub flows : Flows kinds s.network s.state (map (Drained c) tokens) t.state
 
   -- the first `moved.count` of these words were fed into c, and no more for this reason
-  pub record Feeds (words : List ℕ) (moved : Moved) : Type 0 where
+  pub record Feeds (words : List ℕ) (moved : Transferred) : Type 0 where
     pub few : moved.count ≤ length words
     pub fed : HasFed (take moved.count words)
     pub why : IsFedUpTo t c words moved.count moved.answer

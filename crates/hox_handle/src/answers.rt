@@ -8,7 +8,7 @@ use kpn_net::NetFault;
 
 /// The answer to a call: success, or why it failed.
 #[derive(Clone, Copy, Debug, PartialEq, Eq)]
-pub enum Answer {
+pub enum ReturnCode {
     Done,
     /// The description has this fault; `NetFault::Memory` means out of memory.
     Description(NetFault),
@@ -32,23 +32,23 @@ pub enum Answer {
     Twice,
 }
 
-impl Answer {
+impl ReturnCode {
     /// Returns the number of an answer: 0 for success, 1 to 17 for a fault of the description, else 32 to 40.
     pub fn number(self) -> u32
         ensures { result ≡ answer_number self }
     {
         match self {
-            Answer::Done => 0,
-            Answer::Description(fault) => u32::from(fault.number()),
-            Answer::Closed => 32,
-            Answer::Open => 33,
-            Answer::NoChannel => 34,
-            Answer::Ended => 35,
-            Answer::NoFlag => 36,
-            Answer::NoText => 37,
-            Answer::NoInput => 38,
-            Answer::NoOutput => 39,
-            Answer::Twice => 40,
+            ReturnCode::Done => 0,
+            ReturnCode::Description(fault) => u32::from(fault.number()),
+            ReturnCode::Closed => 32,
+            ReturnCode::Open => 33,
+            ReturnCode::NoChannel => 34,
+            ReturnCode::Ended => 35,
+            ReturnCode::NoFlag => 36,
+            ReturnCode::NoText => 37,
+            ReturnCode::NoInput => 38,
+            ReturnCode::NoOutput => 39,
+            ReturnCode::Twice => 40,
         }
     }
 }

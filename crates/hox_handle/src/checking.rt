@@ -1,7 +1,7 @@
 //! Checks a description.
 ghost use Rattle.hox_handle.specs.Checking.{Checks, LoadsText};
 
-use crate::answers::Answer;
+use crate::answers::ReturnCode;
 use hox_network::{AllKinds, load_by_ports};
 use kpn_net::{Net, NetFault};
 use std::alloc::Global;
@@ -18,11 +18,11 @@ pub(crate) fn net_of(alloc: Global, text: &[u8]) -> Result<Net<AllKinds>, NetFau
 }
 
 /// Checks a description. Returns `Done` if it describes a network, else its fault.
-pub fn check(alloc: Global, text: &[u8]) -> Answer
+pub fn check(alloc: Global, text: &[u8]) -> ReturnCode
     ensures { Checks text.now result }
 {
     match net_of(alloc, text) {
-        Ok(_) => Answer::Done,
-        Err(fault) => Answer::Description(fault),
+        Ok(_) => ReturnCode::Done,
+        Err(fault) => ReturnCode::Description(fault),
     }
 }

@@ -18,10 +18,10 @@ mod session;
 mod texts;
 mod words;
 
-pub use answers::{Answer, end_number, pause_number};
+pub use answers::{ReturnCode, end_number, pause_number};
 pub use checking::check;
-pub use opening::OpenFault;
-pub use running::{Told, run};
+pub use opening::SessionFault;
+pub use running::{RunReport, run};
 pub use session::Session;
 pub use texts::{copy_out, message_of_fault};
-pub use words::Moved;
+pub use words::Transferred;

@@ -4,7 +4,7 @@ ghost use Rattle.hox_handle.specs.Names.{AreNames};
 ghost use Rattle.hox_handle.specs.Opening.{IsNoNames};
 ghost use Rattle.hox_handle.specs.Sessions.{IsNamedAt, IsNotNamed};
 
-use crate::opening::OpenFault;
+use crate::opening::SessionFault;
 use crate::session::Session;
 use hox_stream::StreamFault;
 use kpn_model::{Kinds, Text};
@@ -12,16 +12,16 @@ use kpn_network::Net;
 use std::alloc::{AllocError, Global};
 use std::str;
 
-pub(crate) fn names_in(alloc: Global, bytes: &[u8]) -> Result<Vec<Text>, OpenFault>
+pub(crate) fn names_in(alloc: Global, bytes: &[u8]) -> Result<Vec<Text>, SessionFault>
     ensures ok { IfOk result (λ v. AreNames bytes.now v.items) }
     ensures fault { IfErr result (IsNoNames bytes.now) }
 {
     let Ok(text) = str::from_utf8(bytes) else {
-        return Err(OpenFault::NoText);
+        return Err(SessionFault::NoText);
     };
     match words_of(alloc, text) {
         Ok(names) => Ok(names),
-        Err(_) => Err(OpenFault::Unopened(StreamFault::Memory)),
+        Err(_) => Err(SessionFault::Unopened(StreamFault::Memory)),
     }
 }
 

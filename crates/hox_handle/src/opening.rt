@@ -1,9 +1,9 @@
 //! Opens a session.
 ghost use Rattle.std.specs.Prelude.{◌≡◌, IfOk, IfErr};
 ghost use Rattle.kpn_sketch.specs.Description.{IsDelayedFault};
-ghost use Rattle.hox_handle.specs.Opening.{answer_of, answer_of_stream, IsOpenFault, IsReadAs, IsUnopened, Opens, OpensBetween};
+ghost use Rattle.hox_handle.specs.Opening.{answer_of, answer_of_stream, IsReadAs, IsSessionFault, IsUnopened, Opens, OpensBetween};
 
-use crate::answers::Answer;
+use crate::answers::ReturnCode;
 use crate::names::names_in;
 use crate::session::Session;
 use hox_network::{AllKinds, sketch_by_ports};
@@ -15,37 +15,37 @@ use std::alloc::Global;
 
 /// Why a session was not opened.
 #[derive(Drop)]
-pub enum OpenFault {
+pub enum SessionFault {
     /// The names are not UTF-8.
     NoText,
     /// The text describes no network, or one that can't be fed and drained at these channels.
     Unopened(StreamFault),
 }
 
-impl OpenFault {
+impl SessionFault {
     /// Returns the answer for this fault.
-    pub fn answer(&self) -> Answer
+    pub fn answer(&self) -> ReturnCode
         ensures { result ≡ answer_of self.now }
     {
         match self {
-            OpenFault::NoText => Answer::NoText,
-            OpenFault::Unopened(fault) => answer_of(fault),
+            SessionFault::NoText => ReturnCode::NoText,
+            SessionFault::Unopened(fault) => answer_of(fault),
         }
     }
 }
 
-fn answer_of(fault: &StreamFault) -> Answer
+fn answer_of(fault: &StreamFault) -> ReturnCode
     ensures { result ≡ answer_of_stream fault.now }
 {
     match fault {
-        StreamFault::Description(fault) => Answer::Description(*fault),
+        StreamFault::Description(fault) => ReturnCode::Description(*fault),
         StreamFault::Input(NameFault::Memory) | StreamFault::Output(NameFault::Memory) => {
-            Answer::Description(NetFault::Memory)
+            ReturnCode::Description(NetFault::Memory)
         }
-        StreamFault::Input(_) => Answer::NoInput,
-        StreamFault::Output(_) => Answer::NoOutput,
-        StreamFault::Twice => Answer::Twice,
-        StreamFault::Memory => Answer::Description(NetFault::Memory),
+        StreamFault::Input(_) => ReturnCode::NoInput,
+        StreamFault::Output(_) => ReturnCode::NoOutput,
+        StreamFault::Twice => ReturnCode::Twice,
+        StreamFault::Memory => ReturnCode::Description(NetFault::Memory),
     }
 }
 
@@ -61,9 +61,9 @@ impl Session {
         text: &[u8],
         inputs: &[u8],
         outputs: &[u8],
-    ) -> Result<Session, OpenFault>
+    ) -> Result<Session, SessionFault>
         ensures ok { IfOk result (Opens text.now inputs.now outputs.now) }
-        ensures fault { IfErr result (IsOpenFault text.now inputs.now outputs.now) }
+        ensures fault { IfErr result (IsSessionFault text.now inputs.now outputs.now) }
     {
         let fed = match names_in(alloc, inputs) {
             Ok(fed) => fed,
@@ -75,7 +75,7 @@ impl Session {
         };
         match open_between(alloc, text, fed.as_slice(), drained.as_slice()) {
             Ok(session) => Ok(session),
-            Err(fault) => Err(OpenFault::Unopened(fault)),
+            Err(fault) => Err(SessionFault::Unopened(fault)),
         }
     }
 }

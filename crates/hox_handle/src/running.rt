@@ -14,7 +14,7 @@ use std::alloc::{AllocError, Global};
 
 /// The end of a run, and its report.
 #[derive(Drop)]
-pub struct Told {
+pub struct RunReport {
     pub end: End,
     pub report: String,
 }
@@ -22,7 +22,7 @@ pub struct Told {
 /// Runs the network of a description from start to end, in the calling thread, within its budget.
 ///
 /// Errors: the fault of the description; `Memory` if out of memory before the run or for the report.
-pub fn run(alloc: Global, text: &[u8]) -> Result<Told, NetFault>
+pub fn run(alloc: Global, text: &[u8]) -> Result<RunReport, NetFault>
     ensures { Runs text.now result }
 {
     let net = net_of(alloc, text)?;
@@ -32,7 +32,7 @@ pub fn run(alloc: Global, text: &[u8]) -> Result<Told, NetFault>
     }
 }
 
-fn run_net(alloc: Global, net: Net<AllKinds>) -> Result<Told, AllocError>
+fn run_net(alloc: Global, net: Net<AllKinds>) -> Result<RunReport, AllocError>
     ensures { IfOk result (IsRunTold net) }
 {
     let bodies = bodies_of(alloc, &net)?;
@@ -43,7 +43,7 @@ fn run_bodies(
     alloc: Global,
     net: Net<AllKinds>,
     bodies: Vec<CardBody<AllKinds>>,
-) -> Result<Told, AllocError>
+) -> Result<RunReport, AllocError>
     ensures { IfOk result (IsRunTold net) }
 {
     let opened = Machine::<CardBody<AllKinds>, Tallied>::open_with_keeper(alloc, net, bodies);
@@ -54,7 +54,7 @@ fn run_bodies(
     told_of(alloc, &machine.into_chronicle())
 }
 
-fn told_of(alloc: Global, chronicle: &Chronicle<AllKinds, Tallied>) -> Result<Told, AllocError>
+fn told_of(alloc: Global, chronicle: &Chronicle<AllKinds, Tallied>) -> Result<RunReport, AllocError>
     requires { IsSome chronicle.now.end }
     ensures { IfOk result (IsRunTold chronicle.now.network) }
 {
@@ -68,5 +68,5 @@ fn told_of(alloc: Global, chronicle: &Chronicle<AllKinds, Tallied>) -> Result<To
     let places = places_of(alloc, net, chronicle.standings())?;
     let entries = chronicle.keeper();
     let report = text_of_entries(alloc, net, entries, places.as_slice(), end, None)?;
-    Ok(Told { end, report })
+    Ok(RunReport { end, report })
 }

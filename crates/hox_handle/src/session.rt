@@ -4,8 +4,8 @@ ghost use Rattle.kpn_flow.specs.Stands.{IsStand};
 ghost use Rattle.kpn_flow.specs.Waits.{starves, holds_up};
 ghost use Rattle.hox_handle.specs.Sessions.{flow_kinds, fill, may_feed, DrainsAt, EndsAt, FeedsAt, GoesOn};
 
-use crate::answers::Answer;
-use crate::words::{Moved, drain_words, feed_words};
+use crate::answers::ReturnCode;
+use crate::words::{Transferred, drain_words, feed_words};
 use hox_network::AllKinds;
 use hox_stream::Exits;
 use kpn_compute::{Both, CardBody};
@@ -39,11 +39,11 @@ impl Session {
     ///
     /// Returns the number fed and `Done` if all were fed or the input is full, `NoFlag` if the next word is
     /// no flag, `Ended` if the input has ended, or `NoChannel` if there is none.
-    pub fn feed(&mut self, place: usize, words: &[u64]) -> Moved
+    pub fn feed(&mut self, place: usize, words: &[u64]) -> Transferred
         ensures { FeedsAt self.old self.new place words.now result }
     {
         let Some(input) = channel_at(&self.inputs, place) else {
-            return nothing_for(Answer::NoChannel);
+            return nothing_for(ReturnCode::NoChannel);
         };
         feed_words(&mut self.flow, input, words)
     }
@@ -52,15 +52,15 @@ impl Session {
     /// is full.
     ///
     /// Returns the number moved and `Done`, or `NoChannel` if there is none.
-    pub fn drain(&mut self, place: usize, words: &mut [u64]) -> Moved
+    pub fn drain(&mut self, place: usize, words: &mut [u64]) -> Transferred
         ensures { DrainsAt self.old self.new place words.old words.new result }
     {
         let Some(channel) = self.outputs.get(place).copied() else {
-            return nothing_for(Answer::NoChannel);
+            return nothing_for(ReturnCode::NoChannel);
         };
-        Moved {
+        Transferred {
             count: drain_words(&mut self.flow, channel, words),
-            answer: Answer::Done,
+            answer: ReturnCode::Done,
         }
     }
 
@@ -72,22 +72,22 @@ impl Session {
     }
 
     /// Ends input `place`. Returns `Done`, or `NoChannel` if there is none.
-    pub fn end_input(&mut self, place: usize) -> Answer
+    pub fn end_input(&mut self, place: usize) -> ReturnCode
         ensures { EndsAt self.old self.new place result }
     {
         let Some(channel) = self.inputs.get(place).copied() else {
-            return Answer::NoChannel;
+            return ReturnCode::NoChannel;
         };
         self.flow.end_input(channel);
-        Answer::Done
+        ReturnCode::Done
     }
 }
 
-fn nothing_for(answer: Answer) -> Moved
+fn nothing_for(answer: ReturnCode) -> Transferred
     ensures count { result.count ≡ 0 }
     ensures answer { result.answer ≡ answer }
 {
-    Moved { count: 0, answer }
+    Transferred { count: 0, answer }
 }
 
 impl Session {

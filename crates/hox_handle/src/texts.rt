@@ -2,7 +2,7 @@
 ghost use Rattle.hox_handle.specs.Texts.{IsCopied};
 
 use crate::names::names_in;
-use crate::opening::OpenFault;
+use crate::opening::SessionFault;
 use hox_network::{AllKinds, KINDS, sketch_by_ports};
 use hox_stream::{NameFault, StreamFault};
 use kpn_message::{message_of_delayed, message_of_sketch};
@@ -31,7 +31,7 @@ pub fn message_of_fault(alloc: Global, text: &[u8], fault: NetFault) -> Option<S
     }
 }
 
-impl OpenFault {
+impl SessionFault {
     /// Returns what is wrong, on one line without a line feed, given the arguments of `open`; `None` if the
     /// number of the answer says all, or if out of memory.
     pub fn message(
@@ -42,8 +42,8 @@ impl OpenFault {
         outputs: &[u8],
     ) -> Option<String> {
         match self {
-            OpenFault::NoText => String::from_str(alloc, "the names are not UTF-8").ok(),
-            OpenFault::Unopened(fault) => match fault {
+            SessionFault::NoText => String::from_str(alloc, "the names are not UTF-8").ok(),
+            SessionFault::Unopened(fault) => match fault {
                 StreamFault::Description(fault) => message_of_fault(alloc, text, *fault),
                 StreamFault::Input(fault) => message_of_end(alloc, &INPUT, inputs, fault),
                 StreamFault::Output(fault) => message_of_end(alloc, &OUTPUT, outputs, fault),

@@ -5,16 +5,16 @@ ghost use Rattle.kpn_model.specs.Valid.{IsOfSort};
 ghost use Rattle.kpn_flow.specs.Flows.{is_among};
 ghost use Rattle.hox_handle.specs.Words.{word_of, Drains, Feeds, IsNoFlag};
 
-use crate::answers::Answer;
+use crate::answers::ReturnCode;
 use kpn_body::Body;
 use kpn_flow::Flow;
 use kpn_model::{Sort, Token};
 
 /// The number of words fed or drained, and the answer.
 #[derive(Clone, Copy, Debug, PartialEq, Eq)]
-pub struct Moved {
+pub struct Transferred {
     pub count: usize,
-    pub answer: Answer,
+    pub answer: ReturnCode,
 }
 
 fn token_of(sort: Sort, word: u64) -> Option<Token>
@@ -44,13 +44,13 @@ fn word_of(token: Token) -> u64
 
 /// Feeds words into an input, in order, as many as fit. Answers `Done` if all were fed or it is full,
 /// `NoFlag` if the next is no flag, and `Ended` if the channel is no input or has ended.
-pub(crate) fn feed_words<B: Body>(flow: &mut Flow<B>, channel: usize, words: &[u64]) -> Moved
+pub(crate) fn feed_words<B: Body>(flow: &mut Flow<B>, channel: usize, words: &[u64]) -> Transferred
     ensures { Feeds (family B.Kinds.Kinds) flow.old flow.new channel words.now result }
 {
     if !flow.is_input(channel) {
-        return Moved {
+        return Transferred {
             count: 0,
-            answer: Answer::Ended,
+            answer: ReturnCode::Ended,
         };
     }
     flow.assure_one_run();
@@ -58,22 +58,22 @@ pub(crate) fn feed_words<B: Body>(flow: &mut Flow<B>, channel: usize, words: &[u
     let mut count = 0;
     while count < words.len() {
         let Some(token) = token_of(sort, words[count]) else {
-            return Moved {
+            return Transferred {
                 count,
-                answer: Answer::NoFlag,
+                answer: ReturnCode::NoFlag,
             };
         };
         if !flow.feed(channel, token) {
-            return Moved {
+            return Transferred {
                 count,
-                answer: Answer::Done,
+                answer: ReturnCode::Done,
             };
         }
         count += 1;
     }
-    Moved {
+    Transferred {
         count,
-        answer: Answer::Done,
+        answer: ReturnCode::Done,
     }
 }
 

@@ -23,4 +23,4 @@ pub use names::channel_names;
 pub use preparing::prepare;
 pub use presets::{FileFault, PresetFault};
 pub use reading::{LONGEST_FILE, ReadFault, read_whole};
-pub use request::{Fault, Request, RunFault, StreamAs, TokenFile};
+pub use request::{Fault, NoResult, Request, StreamAs, TokenFile};

@@ -3,7 +3,7 @@ ghost use Rattle.std.specs.Prelude.{◌≡◌};
 ghost use Rattle.hox_network.specs.Statuses.{status_of_file, status_of_fault};
 
 use crate::presets::{FileFault, PresetFault};
-use kpn_front::{Refused, Status};
+use kpn_front::{ExitStatus, Refused};
 use kpn_model::{Listed, Text};
 use kpn_sketch::NetFault;
 use kpn_tokens::{Decimals, Layout};
@@ -60,37 +60,37 @@ pub enum Fault {
 /// Why a run has no result: out of memory, before the run or while writing its report; or the machine
 /// rejected an answer of one of several workers.
 #[derive(Clone, Copy, Debug, PartialEq, Eq)]
-pub enum RunFault {
+pub enum NoResult {
     Memory,
     Lost,
 }
 
 impl Fault {
     /// Returns the program's exit status.
-    pub fn status(&self) -> Status
+    pub fn status(&self) -> ExitStatus
         ensures { result ≡ status_of_fault self.now }
     {
         match self {
             Fault::Description(refused) => match refused.fault {
-                NetFault::Memory => Status::MemoryRefused,
-                _ => Status::Refused,
+                NetFault::Memory => ExitStatus::MemoryRefused,
+                _ => ExitStatus::Refused,
             },
             Fault::Tokens(stop) => status_of_file(stop.fault),
             Fault::NoHolder(..) | Fault::NoShown(..) | Fault::NoOutput(..) =>
-                Status::WrongArguments,
-            Fault::Budget(_) => Status::WrongArguments,
-            Fault::Memory => Status::MemoryRefused,
-            Fault::Lost => Status::Lost,
+                ExitStatus::WrongArguments,
+            Fault::Budget(_) => ExitStatus::WrongArguments,
+            Fault::Memory => ExitStatus::MemoryRefused,
+            Fault::Lost => ExitStatus::Lost,
         }
     }
 }
 
-fn status_of_file(fault: FileFault) -> Status
+fn status_of_file(fault: FileFault) -> ExitStatus
     ensures { result ≡ status_of_file fault }
 {
     match fault {
-        FileFault::NoChannel => Status::WrongArguments,
-        FileFault::Memory => Status::MemoryRefused,
-        FileFault::Record { .. } | FileFault::TooMany { .. } => Status::Refused,
+        FileFault::NoChannel => ExitStatus::WrongArguments,
+        FileFault::Memory => ExitStatus::MemoryRefused,
+        FileFault::Record { .. } | FileFault::TooMany { .. } => ExitStatus::Refused,
     }
 }

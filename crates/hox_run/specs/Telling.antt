@@ -22,8 +22,8 @@ use Rattle.kpn_verdict.specs.VerdictText.{verdict_line}
 use Rattle.kpn_tokens.specs.declared.layouts.Decimals.{Decimals}
 use Rattle.kpn_tokens.specs.declared.layouts.Layout.{Layout}
 use Rattle.kpn_tokens.specs.Records.{clips, fits, misfits}
-use Rattle.kpn_front.specs.declared.status.Status.{Status}
-use Rattle.kpn_front.specs.declared.status.Status.TheVariants.{Success, BudgetSpent, MemoryRefused, Deadlocked, AtCeiling, Refused}
+use Rattle.kpn_front.specs.declared.status.ExitStatus.{ExitStatus}
+use Rattle.kpn_front.specs.declared.status.ExitStatus.TheVariants.{Success, BudgetSpent, MemoryRefused, Deadlocked, AtCeiling, Refused}
 use Rattle.hox_run.specs.declared.shown.ChannelAs.{ChannelAs}
 use Rattle.hox_run.specs.declared.files.StreamFile.{StreamFile}
 use Rattle.hox_run.specs.declared.telling.Told.{Told}
@@ -31,7 +31,7 @@ use Rattle.hox_run.specs.Cuts.{Leaves, before_verdict, cut_text}
 use Rattle.hox_run.specs.Judging.{AreDry, IsJudged, active_part}
 use Rattle.hox_run.specs.Notes.{AreNotes}
 
-abbrev pub status_of_verdict : Verdict → Status
+abbrev pub status_of_verdict : Verdict → ExitStatus
 status_of_verdict Finished = Success
 status_of_verdict RanDry = Success
 status_of_verdict (Cycle p) = Deadlocked
@@ -67,7 +67,7 @@ is_early Budget = true
 is_early _ = false
 
 -- the exit status for a verdict, unless a token does not fit a file
-abbrev pub status_with : Verdict → List StreamFile → Status
+abbrev pub status_with : Verdict → List StreamFile → ExitStatus
 status_with verdict files = if list_any (λ (f : StreamFile). f.is_misfit) files then Refused else status_of_verdict verdict
 
 module _ (kinds : Family) (net : Network) where

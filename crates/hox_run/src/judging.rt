@@ -12,7 +12,7 @@ ghost use Rattle.hox_run.specs.Telling.{places_in};
 
 use crate::cut::push_after_verdict;
 use crate::ended::Ended;
-use crate::shown::{ChannelAs, Wanted, push_before_verdict};
+use crate::shown::{ChannelAs, WantedStreams, push_before_verdict};
 use kpn_dry::{is_complete, push_active_line};
 use kpn_model::{End, Kinds, Verdict};
 use kpn_network::Net;
@@ -33,7 +33,7 @@ pub(crate) struct Judged {
 pub(crate) fn judge<K: Kinds, E: Entries>(
     alloc: Global,
     run: &Ended<'_, K, E>,
-    wanted: &Wanted<'_>,
+    wanted: &WantedStreams<'_>,
 ) -> Result<Judged, AllocError>
     ensures verdict { IfOk result (λ judged. IsJudged run.now.net.now (is_told_dry run.now.net.now run.now.standings.now) wanted.now.show.now wanted.now.outputs.now run.now.places.now run.now.end judged.verdict) }
     ensures report { IfOk result (λ judged. (kinds : Family) (M : State) → (has_report run.now.end ≡ true → run.now.places.now ≡ places_in kinds run.now.net.now M) → string_bytes judged.report ≡ report_text kinds run.now.net.now run.now.end (E.entries run.now.history.now) M None ++ before_verdict run.now.net.now run.now.end (E.entries run.now.history.now) wanted.now.show.now ++ verdict_line run.now.net.now run.now.places.now judged.verdict ++ active_part run.now.net.now (is_told_dry run.now.net.now run.now.standings.now) run.now.end judged.verdict ++ after_verdict run.now.net.now run.now.end (E.entries run.now.history.now) (left_at run.now.standings.now run.now.places.now) wanted.now.show.now) }
@@ -46,7 +46,7 @@ pub(crate) fn judge<K: Kinds, E: Entries>(
 
 /// Returns the verdict on a run. At the ceiling, or if it was cut, it ran dry if some channel is wanted, and all
 /// that are wanted have their whole streams.
-fn verdict_on<K: Kinds, E: Entries>(run: &Ended<'_, K, E>, wanted: &Wanted<'_>) -> Verdict
+fn verdict_on<K: Kinds, E: Entries>(run: &Ended<'_, K, E>, wanted: &WantedStreams<'_>) -> Verdict
     ensures { IsJudged run.now.net.now (is_told_dry run.now.net.now run.now.standings.now) wanted.now.show.now wanted.now.outputs.now run.now.places.now run.now.end result }
 {
     let on_end = verdict_of(run.net, run.places, run.end);
@@ -63,7 +63,7 @@ fn verdict_on<K: Kinds, E: Entries>(run: &Ended<'_, K, E>, wanted: &Wanted<'_>) 
 }
 
 /// Returns whether some channel is wanted, and each has its whole stream.
-fn has_all<K: Kinds>(net: &Net<K>, standings: &[Standing], wanted: &Wanted<'_>) -> bool
+fn has_all<K: Kinds>(net: &Net<K>, standings: &[Standing], wanted: &WantedStreams<'_>) -> bool
     ensures { result ≡ has_all net.now (is_told_dry net.now standings.now) wanted.now.show.now wanted.now.outputs.now }
 {
     let is_some = !wanted.show.is_empty() || !wanted.outputs.is_empty();

@@ -14,8 +14,8 @@ mod telling;
 
 pub use files::StreamFile;
 pub use notes::{Notes, SourceNote};
-pub use progress::{Progress, Silent, SoFar};
+pub use progress::{ProgressReceiver, Silent, SoFar};
 pub use running::execute;
 pub use serving::serve;
-pub use shown::{ChannelAs, Wanted};
+pub use shown::{ChannelAs, WantedStreams};
 pub use telling::Told;

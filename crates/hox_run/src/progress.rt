@@ -6,7 +6,7 @@ ghost use Rattle.kpn_state.specs.Standings.{is_ready};
 
 use kpn_body::Body;
 use kpn_machine::Machine;
-use kpn_observe::{Observer, Phase, Progress as Watched, Wish};
+use kpn_observe::{Observer, Phase, Progress, Wish};
 use kpn_state::Keeper;
 
 /// The progress of a run: how many entries its history has, how many of them are growths, and how many
@@ -21,7 +21,7 @@ pub struct SoFar {
 /// Receives the progress of a run. The result of the run doesn't depend on it.
 ///
 /// ```text
-/// impl<'a, R: Clock + Eprint + Sync> Progress for ProgressLine<'a, R> {
+/// impl<'a, R: Clock + Eprint + Sync> ProgressReceiver for ProgressLine<'a, R> {
 ///     fn is_wanted(&self) -> bool {
 ///         self.is_wanted
 ///     }
@@ -31,7 +31,7 @@ pub struct SoFar {
 ///     }
 /// }
 /// ```
-pub trait Progress: Sync {
+pub trait ProgressReceiver: Sync {
     /// Returns whether progress is wanted at all. If not, no thread watches several workers.
     fn is_wanted(&self) -> bool;
 
@@ -46,7 +46,7 @@ pub trait Progress: Sync {
 /// A receiver that ignores the progress.
 pub struct Silent;
 
-impl Progress for Silent {
+impl ProgressReceiver for Silent {
     fn is_wanted(&self) -> bool {
         false
     }
@@ -59,7 +59,10 @@ impl Progress for Silent {
 }
 
 /// Shows the progress of a machine if it is due.
-pub(crate) fn tell_of<B: Body, H: Keeper, P: Progress>(machine: &Machine<B, H>, progress: &P) {
+pub(crate) fn tell_of<B: Body, H: Keeper, P: ProgressReceiver>(
+    machine: &Machine<B, H>,
+    progress: &P,
+) {
     if progress.is_due() {
         progress.tell(so_far(machine));
     }
@@ -83,8 +86,8 @@ pub(crate) struct OnBoard<'a, P> {
     pub(crate) progress: &'a P,
 }
 
-impl<'a, P: Progress> Observer for OnBoard<'a, P> {
-    fn see(&self, seen: Watched) -> Wish {
+impl<'a, P: ProgressReceiver> Observer for OnBoard<'a, P> {
+    fn see(&self, seen: Progress) -> Wish {
         if matches!(seen.phase, Phase::Running) && self.progress.is_due() {
             self.progress.tell(SoFar {
                 entries: u64::from(seen.entries),

@@ -7,17 +7,17 @@ ghost use Rattle.kpn_state.specs.Standings.{standing};
 ghost use Rattle.hox_run.specs.Cuts.{IsWithin};
 ghost use Rattle.hox_run.specs.Telling.{TellsRun};
 
-use crate::progress::{OnBoard, Progress, tell_of};
-use crate::shown::Wanted;
+use crate::progress::{OnBoard, ProgressReceiver, tell_of};
+use crate::shown::WantedStreams;
 use crate::telling::{Told, told_of};
-use hox_network::RunFault;
+use hox_network::NoResult;
 use kpn_body::Body;
 use kpn_compute::{CardBody, Computes, bodies_of};
 use kpn_machine::Machine;
 use kpn_network::Net;
 use kpn_observe::{WatchedFault, WatchedRun, run_watched_with_keeper};
 use kpn_report::Tallied;
-use kpn_run::{Prompt, RunFault as Fault, run_with_keeper};
+use kpn_run::{Prompt, RunFault, run_with_keeper};
 use kpn_state::{Keeper, Packed};
 use std::alloc::{AllocError, Global};
 use std::rt::Clock;
@@ -38,25 +38,25 @@ const PERIOD: u64 = 100;
 /// schedule and the number of workers (Kahn 1974). If the budget cuts the run, each of its streams is a
 /// prefix of any other run's, or the reverse.
 ///
-/// Errors: see [`RunFault`].
-pub fn execute<K: Computes, R: Wait + Clock + Threads + Sync, P: Progress>(
+/// Errors: see [`NoResult`].
+pub fn execute<K: Computes, R: Wait + Clock + Threads + Sync, P: ProgressReceiver>(
     rt: &R,
     alloc: Global,
     net: Net<K>,
     workers: usize,
-    wanted: &Wanted<'_>,
+    wanted: &WantedStreams<'_>,
     progress: &P,
-) -> Result<Told, RunFault>
+) -> Result<Told, NoResult>
     requires workers { (1 ≤ workers) × (workers ≤ 16) }
     requires within { All (IsWithin net) wanted.now.outputs.now }
     ensures told { IfOk result (TellsRun (family K.Kinds) net wanted.now.show.now wanted.now.outputs.now) }
-    ensures lost { result ≡ Err RunFault.Lost → 1 < workers }
+    ensures lost { result ≡ Err NoResult.Lost → 1 < workers }
 {
     let Ok(bodies) = bodies_of(alloc, &net) else {
-        return Err(RunFault::Memory);
+        return Err(NoResult::Memory);
     };
     if workers == 1 {
-        execute_alone(alloc, net, bodies, wanted, progress).map_err(|_| RunFault::Memory)
+        execute_alone(alloc, net, bodies, wanted, progress).map_err(|_| NoResult::Memory)
     } else if progress.is_wanted() {
         execute_watched(rt, alloc, net, bodies, workers, wanted, progress)
     } else {
@@ -64,11 +64,11 @@ pub fn execute<K: Computes, R: Wait + Clock + Threads + Sync, P: Progress>(
     }
 }
 
-fn execute_alone<K: Computes, P: Progress>(
+fn execute_alone<K: Computes, P: ProgressReceiver>(
     alloc: Global,
     net: Net<K>,
     bodies: Vec<CardBody<K>>,
-    wanted: &Wanted<'_>,
+    wanted: &WantedStreams<'_>,
     progress: &P,
 ) -> Result<Told, AllocError>
     requires within { All (IsWithin net) wanted.now.outputs.now }
@@ -84,7 +84,7 @@ fn execute_alone<K: Computes, P: Progress>(
 }
 
 /// Runs to an end in the calling thread, a piece at a time. No process may be out.
-fn finish<B: Body, H: Keeper, P: Progress>(machine: &mut Machine<B, H>, progress: &P)
+fn finish<B: Body, H: Keeper, P: ProgressReceiver>(machine: &mut Machine<B, H>, progress: &P)
     requires { (p : ℕ) → standing machine.old.standings p ≢ Out }
     ensures network { machine.new.network ≡ machine.old.network }
     ensures ended { IsSome machine.new.end }
@@ -114,8 +114,8 @@ fn execute_by_workers<K: Computes, R: Wait + Clock + Threads + Sync>(
     net: Net<K>,
     bodies: Vec<CardBody<K>>,
     workers: usize,
-    wanted: &Wanted<'_>,
-) -> Result<Told, RunFault>
+    wanted: &WantedStreams<'_>,
+) -> Result<Told, NoResult>
     requires cards { map ⟦<CardBody<K> as Body>⟧.card bodies.items ≡ map (λ p. p.card) net.processes }
     requires workers { (1 < workers) × (workers ≤ 16) }
     requires within { All (IsWithin net) wanted.now.outputs.now }
@@ -126,25 +126,25 @@ fn execute_by_workers<K: Computes, R: Wait + Clock + Threads + Sync>(
     ) {
         Ok(finish) => {
             let chronicle = finish.chronicle();
-            told_of(alloc, chronicle, chronicle.keeper(), wanted).map_err(|_| RunFault::Memory)
+            told_of(alloc, chronicle, chronicle.keeper(), wanted).map_err(|_| NoResult::Memory)
         }
-        Err(Fault::Memory { .. }) => Err(RunFault::Memory),
-        Err(Fault::Lost { .. }) => Err(RunFault::Lost),
-        Err(Fault::Workers { .. }) => unreachable!(),
-        Err(Fault::Open { .. }) => unreachable!(),
+        Err(RunFault::Memory { .. }) => Err(NoResult::Memory),
+        Err(RunFault::Lost { .. }) => Err(NoResult::Lost),
+        Err(RunFault::Workers { .. }) => unreachable!(),
+        Err(RunFault::Open { .. }) => unreachable!(),
     }
 }
 
 /// Runs a network with several workers and a thread that shows their progress.
-fn execute_watched<K: Computes, R: Wait + Clock + Threads + Sync, P: Progress>(
+fn execute_watched<K: Computes, R: Wait + Clock + Threads + Sync, P: ProgressReceiver>(
     rt: &R,
     alloc: Global,
     net: Net<K>,
     bodies: Vec<CardBody<K>>,
     workers: usize,
-    wanted: &Wanted<'_>,
+    wanted: &WantedStreams<'_>,
     progress: &P,
-) -> Result<Told, RunFault>
+) -> Result<Told, NoResult>
     requires cards { map ⟦<CardBody<K> as Body>⟧.card bodies.items ≡ map (λ p. p.card) net.processes }
     requires workers { (1 < workers) × (workers ≤ 16) }
     requires within { All (IsWithin net) wanted.now.outputs.now }
@@ -156,9 +156,9 @@ fn execute_watched<K: Computes, R: Wait + Clock + Threads + Sync, P: Progress>(
         rt, alloc, net, bodies, workers, &Prompt, period, &observer,
     ) {
         Ok(ran) => told_of_watched(alloc, &ran, wanted),
-        Err(WatchedFault::Memory { .. }) => Err(RunFault::Memory),
-        Err(WatchedFault::Stopped { .. }) => Err(RunFault::Lost),
-        Err(WatchedFault::Lost { .. }) => Err(RunFault::Lost),
+        Err(WatchedFault::Memory { .. }) => Err(NoResult::Memory),
+        Err(WatchedFault::Stopped { .. }) => Err(NoResult::Lost),
+        Err(WatchedFault::Lost { .. }) => Err(NoResult::Lost),
         Err(WatchedFault::Workers { .. }) => unreachable!(),
         Err(WatchedFault::Open { .. }) => unreachable!(),
     }
@@ -169,14 +169,14 @@ fn execute_watched<K: Computes, R: Wait + Clock + Threads + Sync, P: Progress>(
 fn told_of_watched<K: Computes>(
     alloc: Global,
     ran: &WatchedRun<K, Packed>,
-    wanted: &Wanted<'_>,
-) -> Result<Told, RunFault>
+    wanted: &WantedStreams<'_>,
+) -> Result<Told, NoResult>
     requires within { All (IsWithin ran.now.machine.network) wanted.now.outputs.now }
     ensures { IfOk result (TellsRun (family K.Kinds) ran.now.machine.network wanted.now.show.now wanted.now.outputs.now) }
 {
     if ran.end().is_none() {
-        return Err(RunFault::Lost);
+        return Err(NoResult::Lost);
     }
     let chronicle = ran.chronicle();
-    told_of(alloc, chronicle, chronicle.keeper(), wanted).map_err(|_| RunFault::Memory)
+    told_of(alloc, chronicle, chronicle.keeper(), wanted).map_err(|_| NoResult::Memory)
 }

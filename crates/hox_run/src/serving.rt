@@ -8,11 +8,11 @@ ghost use Rattle.hox_network.specs.Preparing.{HasFewWorkers, LacksChannel, Prepa
 ghost use Rattle.hox_run.specs.Cuts.{IsWithin};
 ghost use Rattle.hox_run.specs.Serving.{AreNamed, GivesRun, IsNamed, names_of};
 
-use crate::progress::Progress;
+use crate::progress::ProgressReceiver;
 use crate::running::execute;
-use crate::shown::{ChannelAs, Wanted};
+use crate::shown::{ChannelAs, WantedStreams};
 use crate::telling::Told;
-use hox_network::{Fault, Request, RunFault, StreamAs, channel_names, prepare};
+use hox_network::{Fault, NoResult, Request, StreamAs, channel_names, prepare};
 use kpn_compute::Computes;
 use kpn_front::Source;
 use kpn_model::{Kinds, Listed, Text};
@@ -28,7 +28,7 @@ use std::thread::Threads;
 /// `progress` receives the progress of the run.
 ///
 /// Errors: see [`Fault`].
-pub fn serve<K: Computes, I: Source, R: Wait + Clock + Threads + Sync, P: Progress>(
+pub fn serve<K: Computes, I: Source, R: Wait + Clock + Threads + Sync, P: ProgressReceiver>(
     rt: &R,
     alloc: Global,
     request: &Request,
@@ -46,7 +46,7 @@ pub fn serve<K: Computes, I: Source, R: Wait + Clock + Threads + Sync, P: Progre
     }
 }
 
-fn serve_prepared<K: Computes, R: Wait + Clock + Threads + Sync, P: Progress>(
+fn serve_prepared<K: Computes, R: Wait + Clock + Threads + Sync, P: ProgressReceiver>(
     rt: &R,
     alloc: Global,
     request: &Request,
@@ -58,14 +58,14 @@ fn serve_prepared<K: Computes, R: Wait + Clock + Threads + Sync, P: Progress>(
 {
     let show = shown_in(alloc, &net, request.show.as_slice())?;
     let outputs = outputs_in(alloc, &net, request.outputs.as_slice())?;
-    let wanted = Wanted {
+    let wanted = WantedStreams {
         show: show.as_slice(),
         outputs: outputs.as_slice(),
     };
     match execute(rt, alloc, net, request.workers, &wanted, progress) {
         Ok(told) => Ok(told),
-        Err(RunFault::Memory) => Err(Fault::Memory),
-        Err(RunFault::Lost) => Err(Fault::Lost),
+        Err(NoResult::Memory) => Err(Fault::Memory),
+        Err(NoResult::Lost) => Err(Fault::Lost),
     }
 }
 

@@ -22,7 +22,7 @@ pub struct ChannelAs<W> {
 
 /// The wanted streams of a run: those in the report, and those written to files.
 #[derive(Clone, Copy)]
-pub struct Wanted<'a> {
+pub struct WantedStreams<'a> {
     pub show: &'a [ChannelAs<Decimals>],
     pub outputs: &'a [ChannelAs<Layout>],
 }

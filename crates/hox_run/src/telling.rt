@@ -9,9 +9,9 @@ use crate::ended::Ended;
 use crate::files::{StreamFile, stream_files};
 use crate::judging::judge;
 use crate::notes::{Notes, notes_of};
-use crate::shown::Wanted;
+use crate::shown::WantedStreams;
 use kpn_dry::dryness_of;
-use kpn_front::Status;
+use kpn_front::ExitStatus;
 use kpn_laws::{determinacy_of, least_room_of, least_solution_of};
 use kpn_machine::Chronicle;
 use kpn_model::{Kinds, Verdict};
@@ -23,7 +23,7 @@ use std::alloc::{AllocError, Global};
 /// left unused. The report on a run that was cut also has where it left each process, and the streams to show so far.
 #[derive(Drop)]
 pub struct Told {
-    pub status: Status,
+    pub status: ExitStatus,
     pub report: String,
     pub outputs: Vec<StreamFile>,
     pub notes: Notes,
@@ -34,7 +34,7 @@ pub(crate) fn told_of<K: Kinds, H: Keeper, E: Entries>(
     alloc: Global,
     chronicle: &Chronicle<K, H>,
     history: &E,
-    wanted: &Wanted<'_>,
+    wanted: &WantedStreams<'_>,
 ) -> Result<Told, AllocError>
     requires ended { IsSome chronicle.now.end }
     requires entries { E.entries history.now ≡ chronicle.now.history }
@@ -69,11 +69,11 @@ pub(crate) fn told_of<K: Kinds, H: Keeper, E: Entries>(
 }
 
 /// Returns the exit status for a verdict, unless a token does not fit one of the files.
-fn status_with(verdict: Verdict, files: &[StreamFile]) -> Status
+fn status_with(verdict: Verdict, files: &[StreamFile]) -> ExitStatus
     ensures { result ≡ status_with verdict files.now }
 {
     if has_misfit(files) {
-        Status::Refused
+        ExitStatus::Refused
     } else {
         status_of(verdict)
     }
@@ -85,14 +85,14 @@ fn has_misfit(files: &[StreamFile]) -> bool
     files.iter().any(|file| file.is_misfit)
 }
 
-fn status_of(verdict: Verdict) -> Status
+fn status_of(verdict: Verdict) -> ExitStatus
     ensures { result ≡ status_of_verdict verdict }
 {
     match verdict {
-        Verdict::Finished | Verdict::RanDry => Status::Success,
-        Verdict::Cycle(_) => Status::Deadlocked,
-        Verdict::Cut => Status::BudgetSpent,
-        Verdict::Full => Status::AtCeiling,
-        Verdict::Memory => Status::MemoryRefused,
+        Verdict::Finished | Verdict::RanDry => ExitStatus::Success,
+        Verdict::Cycle(_) => ExitStatus::Deadlocked,
+        Verdict::Cut => ExitStatus::BudgetSpent,
+        Verdict::Full => ExitStatus::AtCeiling,
+        Verdict::Memory => ExitStatus::MemoryRefused,
     }
 }

@@ -3,11 +3,11 @@ use Rattle.std.proofs.Common.{◌≡◌, ◌<◌, ◌⊎◌, ℕ, false, List, [
 use Rattle.kpn_model.specs.Network.{Family}
 use Rattle.kpn_flow.specs.Flows.{FlowView}
 use Rattle.kpn_flow.specs.Pieces.{IsOneRunInPieces}
-use Rattle.hox_stream.specs.declared.finish.Finish.{Finish}
+use Rattle.hox_stream.specs.declared.finish.StreamFinish.{StreamFinish}
 use Rattle.hox_stream.specs.Streams.{AllEnd, AreWritten, IsFinish, Streams, StreamsOut, outlet_at}
 use Rattle.hox_stream.specs.Views.{InletView, OutletView, OutsView, outs}
 
-pub streams_ended : (kinds : Family) (s t : FlowView) (ins after : List InletView) (before mid last : OutsView) (finish : Finish)
+pub streams_ended : (kinds : Family) (s t : FlowView) (ins after : List InletView) (before mid last : OutsView) (finish : StreamFinish)
     → Streams kinds s t ins after before mid → AreWritten mid → last.sinks ≡ mid.sinks → AllEnd mid.tables last.tables → IsOneRunInPieces kinds t
     → (IsFinish kinds t after (outs last.sinks mid.tables) finish ⊎ IsFinish kinds t after last finish) → StreamsOut kinds s t ins after before last finish
 streams_ended kinds s t ins after before mid last finish x written sinks ends one_run ended = record {

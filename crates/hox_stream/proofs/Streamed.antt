@@ -14,8 +14,8 @@ use Rattle.kpn_flow.proofs.Stretches.{at_ends_both, at_ends_went, flows_both, fl
 use Rattle.hox_stream.specs.declared.cutting.Refusal.{Refusal}
 use Rattle.hox_stream.specs.Cutting.{IsRefused}
 use Rattle.hox_stream.specs.Ports.{Pours, Takes, Tells, Writes}
-use Rattle.hox_stream.specs.declared.finish.Finish.{Finish}
-use Rattle.hox_stream.specs.declared.finish.Finish.TheVariants.{Over, Refused, Unread, OtherSort, Unwritten, Misfit, Apart, Idle, Memory, Cut}
+use Rattle.hox_stream.specs.declared.finish.StreamFinish.{StreamFinish}
+use Rattle.hox_stream.specs.declared.finish.StreamFinish.TheVariants.{Over, Refused, Unread, OtherSort, Unwritten, Misfit, Apart, Idle, Memory, Cut}
 use Rattle.hox_stream.specs.declared.table.TableFault.{TableFault}
 use Rattle.hox_stream.specs.declared.table.TableFault.TheVariants.{Failed, Misfit as Misfit_there, Apart as Apart_there, Memory as Refused_memory}
 use Rattle.hox_stream.specs.Streams.{AllStay, AreInletsApart, AreOutsApart, IsFinish, IsOutAt, Streams, TableStays, channel_at, inlet_at, outlet_at, table_at}
@@ -327,7 +327,7 @@ fault_stays p q Misfit_there still h = subst (λ (l : List LaneView). (i : ℕ) 
 fault_stays p q Apart_there still h = subst (λ (l : List LaneView). (i : ℕ) × (i < length l) × (1000000 < length (get_or l i no_lane).waiting)) (sym still.lanes) h
 
 -- why a stream ends stays so while sinks are flushed
-pub finish_stays : (kinds : Family) (s : FlowView) (ins : List InletView) (outs after : OutsView) (finish : Finish) → AllStay outs after → IsFinish kinds s ins outs finish → IsFinish kinds s ins after finish
+pub finish_stays : (kinds : Family) (s : FlowView) (ins : List InletView) (outs after : OutsView) (finish : StreamFinish) → AllStay outs after → IsFinish kinds s ins outs finish → IsFinish kinds s ins after finish
 finish_stays kinds s ins outs after (Over end) still h = h
 finish_stays kinds s ins outs after (Refused k refusal) still h = h
 finish_stays kinds s ins outs after (Unread k) still h = h

@@ -7,10 +7,10 @@ use Rattle.kpn_model.specs.Semantics.{State}
 use Rattle.kpn_flow.specs.Events.{Flows, drained}
 use Rattle.kpn_flow.specs.Flows.{FlowView}
 use Rattle.kpn_flow.specs.Ends.{has_twice}
-use Rattle.hox_stream.specs.declared.finish.Finish.{Finish}
+use Rattle.hox_stream.specs.declared.finish.StreamFinish.{StreamFinish}
 use Rattle.hox_stream.specs.declared.serving.LaidOut.{LaidOut}
 use Rattle.hox_stream.specs.declared.serving.LaidTable.{LaidTable}
-use Rattle.hox_stream.specs.declared.finish.Finish.TheVariants.{OtherSort}
+use Rattle.hox_stream.specs.declared.finish.StreamFinish.TheVariants.{OtherSort}
 use Rattle.hox_stream.specs.Serves.{Serves, new_inlet, new_inlets, new_outlet, new_outlets, new_outs, new_tables}
 use Rattle.hox_stream.specs.Starts.{IsStart}
 use Rattle.hox_stream.specs.Streams.{AreInletsApart, AreOutletsApart, AreOutsApart, IsFinish, Streams, StreamsOut, inlet_at, outlet_at, table_at}
@@ -75,24 +75,24 @@ none_waits seen channels (t ∷ ts) (suc k) i h hi = none_waits seen (drop (leng
 
 -- if the tokens of all sources had the sorts of their channels, they still have them
 never_other : (kinds : Family) (s t : FlowView) (ins after : List InletView) (outs left : OutsView) → Streams kinds s t ins after outs left → AreInletsApart ins
-    → ((k : ℕ) → k < length ins → (inlet_at ins k).sort ≡ (channel_of s.network (inlet_at ins k).channel).sort) → (finish : Finish) → IsFinish kinds t after left finish → (k : ℕ) → finish ≢ OtherSort k
+    → ((k : ℕ) → k < length ins → (inlet_at ins k).sort ≡ (channel_of s.network (inlet_at ins k).channel).sort) → (finish : StreamFinish) → IsFinish kinds t after left finish → (k : ℕ) → finish ≢ OtherSort k
 never_other kinds s t ins after outs left x single fit finish h k e =
-    let bad = subst (λ (f : Finish). IsFinish kinds t after left f) e h in
+    let bad = subst (λ (f : StreamFinish). IsFinish kinds t after left f) e h in
     let within : k < length ins = subst (λ n. k < n) x.as_many_inlets bad.0 in
     let takes = x.taken single k within in
     bad.1 (takes.sort ∙ fit k within ∙ ap (λ c. (channel_of s.network c).sort) (sym takes.channel) ∙ ap (λ (net : Network). (channel_of net (inlet_at after k).channel).sort) (sym x.same.network))
 
 -- whether the rest of the tables was written or not
 never_other_ended : (kinds : Family) (s t : FlowView) (ins after : List InletView) (before between left : OutsView) → Streams kinds s t ins after before between → AreInletsApart ins
-    → ((k : ℕ) → k < length ins → (inlet_at ins k).sort ≡ (channel_of s.network (inlet_at ins k).channel).sort) → (finish : Finish) → IsFinish kinds t after between finish ⊎ IsFinish kinds t after left finish
+    → ((k : ℕ) → k < length ins → (inlet_at ins k).sort ≡ (channel_of s.network (inlet_at ins k).channel).sort) → (finish : StreamFinish) → IsFinish kinds t after between finish ⊎ IsFinish kinds t after left finish
     → (k : ℕ) → finish ≢ OtherSort k
 never_other_ended kinds s t ins after before between left x single fit finish (inl h) k e = never_other kinds s t ins after before between x single fit finish h k e
 never_other_ended kinds s t ins after before between left x single fit finish (inr h) k e =
-    let bad = subst (λ (f : Finish). IsFinish kinds t after left f) e h in
+    let bad = subst (λ (f : StreamFinish). IsFinish kinds t after left f) e h in
     never_other kinds s t ins after before between x single fit (OtherSort k) bad k refl
 
 pub serves : {X Y : Type 0} (remaining : X → Option (List ℕ)) (has_failed : X → Bool) (seen : Y → SinkView) (sources : List (LaidOut X)) (sinks : List (LaidOut Y)) (tables : List (LaidTable Y))
-    (kinds : Family) (s t : FlowView) (inputs outputs : List ℕ) (after : List InletView) (left : OutsView) (finish : Finish)
+    (kinds : Family) (s t : FlowView) (inputs outputs : List ℕ) (after : List InletView) (left : OutsView) (finish : StreamFinish)
     → IsStart kinds s inputs outputs
     → StreamsOut kinds s t (new_inlets remaining has_failed s.network inputs sources) after (new_outs seen outputs sinks tables) left finish
     → Serves kinds s t (new_inlets remaining has_failed s.network s.inputs sources) after (new_outs seen s.outputs sinks tables) left finish

@@ -13,10 +13,10 @@ use Rattle.kpn_flow.specs.Events.{Event, Flows, fed, drained}
 use Rattle.kpn_flow.specs.Flows.{FlowView, is_among}
 use Rattle.kpn_flow.specs.Pieces.{IsOneRunInPieces}
 use Rattle.kpn_flow.specs.Preloaded.{IsAtEnds}
-use Rattle.hox_stream.specs.declared.finish.Finish.{Finish}
+use Rattle.hox_stream.specs.declared.finish.StreamFinish.{StreamFinish}
 use Rattle.hox_stream.specs.declared.serving.LaidOut.{LaidOut}
 use Rattle.hox_stream.specs.declared.serving.LaidTable.{LaidTable}
-use Rattle.hox_stream.specs.declared.finish.Finish.TheVariants.{OtherSort}
+use Rattle.hox_stream.specs.declared.finish.StreamFinish.TheVariants.{OtherSort}
 use Rattle.hox_stream.specs.Lanes.{new_lane}
 use Rattle.hox_stream.specs.Ports.{IsSameNet, Takes, Writes}
 use Rattle.hox_stream.specs.Streams.{AreWritten, IsFinish, channel_at, inlet_at, outlet_at, table_at}
@@ -53,7 +53,7 @@ new_outs seen channels sinks tables = outs (new_outlets seen channels sinks) (ne
 -- from a source were fed into its channel; the tokens drained from a channel were written to its sink, or to
 -- its column: first the full rows, then the rest. What happened is a run of the network that held all its
 -- input from the start. At most 8,192 bytes are held of each source, and at most 4,096 wait at each sink
-pub record Serves (kinds : Family) (s t : FlowView) (ins ins_after : List InletView) (before after : OutsView) (finish : Finish) : Type 0 where
+pub record Serves (kinds : Family) (s t : FlowView) (ins ins_after : List InletView) (before after : OutsView) (finish : StreamFinish) : Type 0 where
   pub same : IsSameNet s t
   pub events : List Event
   pub flows : Flows kinds s.network (start kinds s.network) events t.state

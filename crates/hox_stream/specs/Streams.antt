@@ -8,8 +8,8 @@ use Rattle.kpn_flow.specs.Pauses.{NoneCanHelp}
 use Rattle.kpn_flow.specs.Pieces.{IsOneRunInPieces}
 use Rattle.kpn_flow.specs.Preloaded.{IsAtEnds}
 use Rattle.kpn_flow.specs.Waits.{starves}
-use Rattle.hox_stream.specs.declared.finish.Finish.{Finish}
-use Rattle.hox_stream.specs.declared.finish.Finish.TheVariants.{Over, Refused, Unread, OtherSort, Unwritten, Misfit, Apart, Idle, Memory, Cut}
+use Rattle.hox_stream.specs.declared.finish.StreamFinish.{StreamFinish}
+use Rattle.hox_stream.specs.declared.finish.StreamFinish.TheVariants.{Over, Refused, Unread, OtherSort, Unwritten, Misfit, Apart, Idle, Memory, Cut}
 use Rattle.hox_stream.specs.declared.table.TableFault.TheVariants.{Misfit as MisfitInTable, Apart as ApartInTable}
 use Rattle.hox_stream.specs.Cutting.{IsRefused}
 use Rattle.hox_stream.specs.Ports.{IsSameNet, Takes, Writes}
@@ -94,7 +94,7 @@ abbrev pub IsOutAt : OutsView → ℕ → (OutletView → Type 0) → (TableView
 IsOutAt outs k P Q = ((k < length outs.sinks) × P (outlet_at outs.sinks k)) ⊎ ((j : ℕ) × (k ≡ length outs.sinks + j) × (j < length outs.tables) × Q (table_at outs.tables j))
 
 -- when a stream ends for each cause
-abbrev pub IsFinish : Family → FlowView → List InletView → OutsView → Finish → Type 0
+abbrev pub IsFinish : Family → FlowView → List InletView → OutsView → StreamFinish → Type 0
 IsFinish kinds s ins outs (Over end) = NothingGoesOn kinds s.network s.state end × NoneCanHelp kinds s.network s.unended s.outputs s.state
 IsFinish kinds s ins outs (Refused k refusal) = (k < length ins) × IsRefused (inlet_at ins k).layout (inlet_at ins k).sort (inlet_at ins k).kept (inlet_at ins k).is_over refusal
 IsFinish kinds s ins outs (Unread k) = (k < length ins) × ((inlet_at ins k).has_failed ≡ true)
@@ -108,7 +108,7 @@ IsFinish kinds s ins outs Cut = Unit {0}
 
 -- events led the flow on until it ended for this cause, or until writing the last rows failed. What happened
 -- is a run of the network that held all its input from the start
-pub record StreamsOut (kinds : Family) (s t : FlowView) (ins ins_after : List InletView) (before after : OutsView) (finish : Finish) : Type 0 where
+pub record StreamsOut (kinds : Family) (s t : FlowView) (ins ins_after : List InletView) (before after : OutsView) (finish : StreamFinish) : Type 0 where
   pub between : List TableView
   pub streams : Streams kinds s t ins ins_after before (outs after.sinks between)
   pub rest : AllEnd between after.tables

@@ -3,12 +3,12 @@ ghost use Rattle.std.specs.Prelude.{◌≡◌};
 ghost use Rattle.hox_stream.specs.Finishes.{status_of};
 
 use crate::cutting::Refusal;
-use kpn_front::Status;
+use kpn_front::ExitStatus;
 use kpn_model::{End, Verdict};
 
 /// Why a stream ended. Sources and sinks are numbered from 0; sinks of several channels follow those of one.
 #[derive(Clone, Copy, Debug, PartialEq, Eq)]
-pub enum Finish {
+pub enum StreamFinish {
     /// No process can continue, and no token or room would help. `Memory` if a growth got no memory.
     Over(End),
     /// The next record of this source is rejected. All tokens before it were fed.
@@ -32,27 +32,27 @@ pub enum Finish {
     Cut,
 }
 
-impl Finish {
+impl StreamFinish {
     /// Returns the program's exit status. `verdict` is that on the network.
-    pub fn status(self, verdict: Verdict) -> Status
+    pub fn status(self, verdict: Verdict) -> ExitStatus
         ensures { result ≡ status_of self verdict }
     {
         match self {
-            Finish::Over(_) | Finish::Idle => match verdict {
-                Verdict::Finished | Verdict::RanDry => Status::Success,
-                Verdict::Cycle(_) => Status::Deadlocked,
-                Verdict::Cut => Status::BudgetSpent,
-                Verdict::Full => Status::AtCeiling,
-                Verdict::Memory => Status::MemoryRefused,
+            StreamFinish::Over(_) | StreamFinish::Idle => match verdict {
+                Verdict::Finished | Verdict::RanDry => ExitStatus::Success,
+                Verdict::Cycle(_) => ExitStatus::Deadlocked,
+                Verdict::Cut => ExitStatus::BudgetSpent,
+                Verdict::Full => ExitStatus::AtCeiling,
+                Verdict::Memory => ExitStatus::MemoryRefused,
             },
-            Finish::Refused(..)
-            | Finish::Unread(_)
-            | Finish::OtherSort(_)
-            | Finish::Misfit(_)
-            | Finish::Apart(_) => Status::Refused,
-            Finish::Unwritten(_) => Status::WriteFailed,
-            Finish::Memory => Status::MemoryRefused,
-            Finish::Cut => Status::BudgetSpent,
+            StreamFinish::Refused(..)
+            | StreamFinish::Unread(_)
+            | StreamFinish::OtherSort(_)
+            | StreamFinish::Misfit(_)
+            | StreamFinish::Apart(_) => ExitStatus::Refused,
+            StreamFinish::Unwritten(_) => ExitStatus::WriteFailed,
+            StreamFinish::Memory => ExitStatus::MemoryRefused,
+            StreamFinish::Cut => ExitStatus::BudgetSpent,
         }
     }
 }

@@ -22,10 +22,10 @@ mod watching;
 
 pub use cutting::{LONGEST_RECORD, Refusal};
 pub use exits::Exits;
-pub use finish::Finish;
+pub use finish::StreamFinish;
 pub use inlet::Inlet;
 pub use outlet::Outlet;
-pub use serving::{LaidEnds, LaidOut, LaidTable, Served, serve};
+pub use serving::{EndedStream, LaidEnds, LaidOut, LaidTable, serve};
 pub use starting::{NameFault, OpenStream, StreamFault, open_stream};
 pub use table::{MOST_AHEAD, TableOutlet};
 pub use watching::{Fill, Moved, NoOnlooker, Onlooker};

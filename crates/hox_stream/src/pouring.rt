@@ -16,7 +16,7 @@ ghost use Rattle.hox_stream.specs.Turns.{AreReadIfWanted, IsTurnOf, TakesTurn};
 ghost use Rattle.hox_stream.specs.Views.{OutsView};
 
 use crate::cutting::{Next, Refusal};
-use crate::finish::Finish;
+use crate::finish::StreamFinish;
 use crate::inlet::{Inlet, ReadFault};
 use crate::serving::sort_of;
 use kpn_body::Body;
@@ -238,7 +238,7 @@ fn pour_at<B: Body, S: Source>(
     flow: &mut Flow<B>,
     inlets: &mut [Inlet<S>],
     k: usize,
-) -> Option<Finish>
+) -> Option<StreamFinish>
     requires within { k < length inlets.old }
     requires input { is_among flow.old.unended (inlet_at inlets.old k).channel ≡ true }
     ensures streams { (outs : OutsView) → Streams (family B.Kinds.Kinds) flow.old flow.new inlets.old inlets.new outs outs }
@@ -249,10 +249,10 @@ fn pour_at<B: Body, S: Source>(
 {
     match pour(alloc, flow, &mut inlets[k]) {
         Ok(()) => None,
-        Err(PourFault::Refused(refusal)) => Some(Finish::Refused(k, refusal)),
-        Err(PourFault::Failed) => Some(Finish::Unread(k)),
-        Err(PourFault::OtherSort) => Some(Finish::OtherSort(k)),
-        Err(PourFault::Memory) => Some(Finish::Memory),
+        Err(PourFault::Refused(refusal)) => Some(StreamFinish::Refused(k, refusal)),
+        Err(PourFault::Failed) => Some(StreamFinish::Unread(k)),
+        Err(PourFault::OtherSort) => Some(StreamFinish::OtherSort(k)),
+        Err(PourFault::Memory) => Some(StreamFinish::Memory),
     }
 }
 
@@ -303,14 +303,14 @@ pub(crate) fn pour_next<B: Body, S: Source>(
     flow: &mut Flow<B>,
     inlets: &mut [Inlet<S>],
     turn: &mut usize,
-) -> Option<Finish>
+) -> Option<StreamFinish>
     ensures streams { (outs : OutsView) → Streams (family B.Kinds.Kinds) flow.old flow.new inlets.old inlets.new outs outs }
     ensures finish { IfSome result (λ f. (outs : OutsView) → IsFinish (family B.Kinds.Kinds) flow.new inlets.new outs f) }
     ensures takes_turn { IfNone result (TakesTurn flow.old inlets.old inlets.new turn.old turn.new) }
     ensures only_if_wanted { AreReadIfWanted inlets.old inlets.new }
 {
     let Some(k) = next_starved(flow, inlets, *turn) else {
-        return Some(Finish::Idle);
+        return Some(StreamFinish::Idle);
     };
     *turn = k + 1;
     pour_at(alloc, flow, inlets, k)

@@ -5,7 +5,7 @@ ghost use Rattle.kpn_model.specs.Families.{family};
 ghost use Rattle.hox_stream.specs.Serves.{Serves, new_inlet, new_inlets, new_outs};
 ghost use Rattle.hox_stream.specs.Views.{outs};
 
-use crate::finish::Finish;
+use crate::finish::StreamFinish;
 use crate::inlet::Inlet;
 use crate::outlet::Outlet;
 use crate::placing::outs_of;
@@ -48,12 +48,12 @@ pub struct LaidEnds<I, O> {
 
 /// What is left of a stream that ended: its flow, sources and sinks, in order, and why it ended.
 #[derive(Drop)]
-pub struct Served<F: Computes, I: Source, O: Sink> {
+pub struct EndedStream<F: Computes, I: Source, O: Sink> {
     pub flow: Flow<CardBody<F>>,
     pub inlets: Vec<Inlet<I>>,
     pub outlets: Vec<Outlet<O>>,
     pub tables: Vec<TableOutlet<O>>,
-    pub finish: Finish,
+    pub finish: StreamFinish,
 }
 
 /// Runs a stream until it ends. Superfluous ends are dropped. A source is read only when a process waits for
@@ -74,7 +74,7 @@ pub fn serve<F: Computes, I: Source + Drop, O: Sink + Drop, L: Onlooker>(
     opened: OpenStream<F>,
     ends: LaidEnds<I, O>,
     onlooker: &L,
-) -> Result<Served<F, I, O>, AllocError>
+) -> Result<EndedStream<F, I, O>, AllocError>
     ensures { IfOk result (λ r. Serves (family F.Kinds) opened r.flow (new_inlets I.remaining I.has_failed opened.network opened.inputs ends.sources.items) r.inlets.items (new_outs O.seen opened.outputs ends.sinks.items ends.tables.items) (outs r.outlets.items r.tables.items) r.finish) }
 {
     let LaidEnds {
@@ -93,7 +93,7 @@ pub fn serve<F: Computes, I: Source + Drop, O: Sink + Drop, L: Onlooker>(
     } = opened;
     let finish = stream_out(alloc, &mut flow, inlets.as_mut_slice(), &mut outs, onlooker);
     let Outs { sinks, tables } = outs;
-    Ok(Served {
+    Ok(EndedStream {
         flow,
         inlets,
         outlets: sinks,

@@ -6,7 +6,7 @@ ghost use Rattle.hox_stream.specs.Streams.{AreWritten, IsFinish, Streams, Stream
 ghost use Rattle.hox_stream.specs.Turns.{AreReadUnheld, PassesTurn, TakesTurn};
 ghost use Rattle.hox_stream.specs.Views.{InletView, OutsView};
 
-use crate::finish::Finish;
+use crate::finish::StreamFinish;
 use crate::inlet::{Inlet, wants_more};
 use crate::pouring::pour_next;
 use crate::telling::Outs;
@@ -26,7 +26,7 @@ pub(crate) fn stream_out<B: Body, I: Source, O: Sink, L: Onlooker>(
     inlets: &mut [Inlet<I>],
     outs: &mut Outs<O>,
     onlooker: &L,
-) -> Finish
+) -> StreamFinish
     ensures { StreamsOut (family B.Kinds.Kinds) flow.old flow.new inlets.old inlets.new outs.old outs.new result }
 {
     let finish = stream(alloc, flow, inlets, outs, onlooker);
@@ -42,7 +42,7 @@ fn stream<B: Body, I: Source, O: Sink, L: Onlooker>(
     inlets: &mut [Inlet<I>],
     outs: &mut Outs<O>,
     onlooker: &L,
-) -> Finish
+) -> StreamFinish
     ensures streams { Streams (family B.Kinds.Kinds) flow.old flow.new inlets.old inlets.new outs.old outs.new }
     ensures finish { IsFinish (family B.Kinds.Kinds) flow.new inlets.new outs.new result }
     ensures written { AreWritten outs.new }
@@ -63,7 +63,7 @@ fn turn_on<B: Body, I: Source, O: Sink, L: Onlooker>(
     inlets: &mut [Inlet<I>],
     outs: &mut Outs<O>,
     onlooker: &L,
-) -> Finish
+) -> StreamFinish
     ensures streams { Streams (family B.Kinds.Kinds) flow.old flow.new inlets.old inlets.new outs.old outs.new }
     ensures finish { IsFinish (family B.Kinds.Kinds) flow.new inlets.new outs.new result }
 {
@@ -74,7 +74,7 @@ fn turn_on<B: Body, I: Source, O: Sink, L: Onlooker>(
         }
         show_if_due(flow, inlets, outs, onlooker);
     }
-    Finish::Cut
+    StreamFinish::Cut
 }
 
 /// Advances the flow as far as it can, and writes its output. If there is none, reads a source that a process
@@ -85,7 +85,7 @@ fn turn<B: Body, I: Source, O: Sink>(
     inlets: &mut [Inlet<I>],
     outs: &mut Outs<O>,
     next: &mut usize,
-) -> Option<Finish>
+) -> Option<StreamFinish>
     ensures streams { Streams (family B.Kinds.Kinds) flow.old flow.new inlets.old inlets.new outs.old outs.new }
     ensures finish { IfSome result (IsFinish (family B.Kinds.Kinds) flow.new inlets.new outs.new) }
     ensures turn { IfNone result (PassesTurn inlets.old inlets.new next.old next.new) }
@@ -99,7 +99,7 @@ fn turn<B: Body, I: Source, O: Sink>(
     }
     match pause {
         Pause::Cut | Pause::Blocked => None,
-        Pause::Over(end) => Some(Finish::Over(end)),
+        Pause::Over(end) => Some(StreamFinish::Over(end)),
         Pause::Starved => pour(alloc, flow, inlets, outs, next),
     }
 }
@@ -112,7 +112,7 @@ fn pour<B: Body, I: Source, O: Sink>(
     inlets: &mut [Inlet<I>],
     outs: &mut Outs<O>,
     next: &mut usize,
-) -> Option<Finish>
+) -> Option<StreamFinish>
     ensures streams { Streams (family B.Kinds.Kinds) flow.old flow.new inlets.old inlets.new outs.old outs.new }
     ensures finish { IfSome result (IsFinish (family B.Kinds.Kinds) flow.new inlets.new outs.new) }
     ensures turn { IfNone result (TakesTurn flow.old inlets.old inlets.new next.old next.new) }

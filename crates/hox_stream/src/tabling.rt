@@ -7,7 +7,7 @@ ghost use Rattle.hox_stream.specs.Streams.{AllEnd, AllTablesStay, IsFinish, IsOu
 ghost use Rattle.hox_stream.specs.Tables.{IsTableFault, TellsLane};
 ghost use Rattle.hox_stream.specs.Views.{InletView, OutletView, TableView, outs};
 
-use crate::finish::Finish;
+use crate::finish::StreamFinish;
 use crate::table::{TableFault, TableOutlet};
 use crate::telling::BATCH;
 use kpn_body::Body;
@@ -48,7 +48,7 @@ fn tell_lane_at<B: Body, S: Sink>(
     first: usize,
     k: usize,
     place: usize,
-) -> Result<bool, Finish>
+) -> Result<bool, StreamFinish>
     requires { k < length tables.old }
     ensures streams { (ins : List InletView) (sinks : List OutletView) → Streams (family B.Kinds.Kinds) flow.old flow.new ins ins (outs sinks tables.old) (outs sinks tables.new) }
     ensures same { IsSameFlow flow.old flow.new }
@@ -65,17 +65,17 @@ fn tell_lane_at<B: Body, S: Sink>(
 }
 
 /// Returns why a stream ends when table `k` has this fault, after `first` sinks.
-fn finish_of(fault: TableFault, first: usize, k: usize) -> Finish
+fn finish_of(fault: TableFault, first: usize, k: usize) -> StreamFinish
     ensures { (kinds : Family) (s : FlowView) (ins : List InletView) (sinks : List OutletView) (tables : List TableView) → length sinks ≡ first → k < length tables → IsTableFault (table_at tables k) fault → IsFinish kinds s ins (outs sinks tables) result }
 {
     let Some(place) = first.checked_add(k) else {
-        return Finish::Memory;
+        return StreamFinish::Memory;
     };
     match fault {
-        TableFault::Failed => Finish::Unwritten(place),
-        TableFault::Misfit => Finish::Misfit(place),
-        TableFault::Apart => Finish::Apart(place),
-        TableFault::Memory => Finish::Memory,
+        TableFault::Failed => StreamFinish::Unwritten(place),
+        TableFault::Misfit => StreamFinish::Misfit(place),
+        TableFault::Apart => StreamFinish::Apart(place),
+        TableFault::Memory => StreamFinish::Memory,
     }
 }
 
@@ -84,7 +84,7 @@ fn tell_table<B: Body, S: Sink>(
     tables: &mut [TableOutlet<S>],
     first: usize,
     k: usize,
-) -> Result<bool, Finish>
+) -> Result<bool, StreamFinish>
     requires { k < length tables.old }
     ensures streams { (ins : List InletView) (sinks : List OutletView) → Streams (family B.Kinds.Kinds) flow.old flow.new ins ins (outs sinks tables.old) (outs sinks tables.new) }
     ensures same { IsSameFlow flow.old flow.new }
@@ -105,7 +105,7 @@ pub(crate) fn tell_tables<B: Body, S: Sink>(
     flow: &mut Flow<B>,
     tables: &mut [TableOutlet<S>],
     first: usize,
-) -> Result<bool, Finish>
+) -> Result<bool, StreamFinish>
     ensures streams { (ins : List InletView) (sinks : List OutletView) → Streams (family B.Kinds.Kinds) flow.old flow.new ins ins (outs sinks tables.old) (outs sinks tables.new) }
     ensures same { IsSameFlow flow.old flow.new }
     ensures none { result ≡ Ok false → flow.new.state ≡ flow.old.state }
@@ -125,7 +125,7 @@ pub(crate) fn tell_tables<B: Body, S: Sink>(
 pub(crate) fn flush_tables<S: Sink>(
     tables: &mut [TableOutlet<S>],
     first: usize,
-) -> Result<(), Finish>
+) -> Result<(), StreamFinish>
     ensures streams { (kinds : Family) (s : FlowView) (ins : List InletView) (sinks : List OutletView) → Streams kinds s s ins ins (outs sinks tables.old) (outs sinks tables.new) }
     ensures written { (k : ℕ) → k < length tables.new → (table_at tables.new k).has_failed ≡ false → (table_at tables.new k).waiting ≡ [] }
     ensures still { AllTablesStay tables.old tables.new }
@@ -144,7 +144,10 @@ pub(crate) fn flush_tables<S: Sink>(
 }
 
 /// Writes all that waits, for each table, even if another one fails. Returns why the stream ends if one fails.
-pub(crate) fn end_tables<S: Sink>(tables: &mut [TableOutlet<S>], first: usize) -> Result<(), Finish>
+pub(crate) fn end_tables<S: Sink>(
+    tables: &mut [TableOutlet<S>],
+    first: usize,
+) -> Result<(), StreamFinish>
     ensures ends { AllEnd tables.old tables.new }
     ensures finish { IfErr result (λ f. (kinds : Family) (s : FlowView) (ins : List InletView) (sinks : List OutletView) → length sinks ≡ first → IsFinish kinds s ins (outs sinks tables.new) f) }
 {

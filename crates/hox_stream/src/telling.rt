@@ -7,7 +7,7 @@ ghost use Rattle.hox_stream.specs.Ports.{IsWriteFault, Tells};
 ghost use Rattle.hox_stream.specs.Streams.{AllEnd, AllFaultsStay, AllStay, AreWritten, IsFinish, Streams, outlet_at};
 ghost use Rattle.hox_stream.specs.Views.{InletView, TableView, outs};
 
-use crate::finish::Finish;
+use crate::finish::StreamFinish;
 use crate::outlet::{Outlet, WriteFault};
 use crate::table::TableOutlet;
 use crate::tabling::{end_tables, flush_tables, tell_tables};
@@ -46,7 +46,7 @@ fn tell_at<B: Body, S: Sink>(
     flow: &mut Flow<B>,
     outlets: &mut [Outlet<S>],
     k: usize,
-) -> Result<bool, Finish>
+) -> Result<bool, StreamFinish>
     requires { k < length outlets.old }
     ensures streams { (ins : List InletView) (tables : List TableView) → Streams (family B.Kinds.Kinds) flow.old flow.new ins ins (outs outlets.old tables) (outs outlets.new tables) }
     ensures same { IsSameFlow flow.old flow.new }
@@ -55,16 +55,16 @@ fn tell_at<B: Body, S: Sink>(
 {
     match tell(flow, &mut outlets[k]) {
         Ok(has_moved) => Ok(has_moved),
-        Err(WriteFault::Failed) => Err(Finish::Unwritten(k)),
-        Err(WriteFault::Misfit) => Err(Finish::Misfit(k)),
-        Err(WriteFault::Memory) => Err(Finish::Memory),
+        Err(WriteFault::Failed) => Err(StreamFinish::Unwritten(k)),
+        Err(WriteFault::Misfit) => Err(StreamFinish::Misfit(k)),
+        Err(WriteFault::Memory) => Err(StreamFinish::Memory),
     }
 }
 
 fn tell_sinks<B: Body, S: Sink>(
     flow: &mut Flow<B>,
     outlets: &mut [Outlet<S>],
-) -> Result<bool, Finish>
+) -> Result<bool, StreamFinish>
     ensures streams { (ins : List InletView) (tables : List TableView) → Streams (family B.Kinds.Kinds) flow.old flow.new ins ins (outs outlets.old tables) (outs outlets.new tables) }
     ensures same { IsSameFlow flow.old flow.new }
     ensures none { result ≡ Ok false → flow.new.state ≡ flow.old.state }
@@ -81,7 +81,7 @@ fn tell_sinks<B: Body, S: Sink>(
 }
 
 /// Writes what waits, for each sink, even if another one fails. Returns why the stream ends if one fails.
-fn flush_sinks<S: Sink>(outlets: &mut [Outlet<S>]) -> Result<(), Finish>
+fn flush_sinks<S: Sink>(outlets: &mut [Outlet<S>]) -> Result<(), StreamFinish>
     ensures streams { (kinds : Family) (s : FlowView) (ins : List InletView) (tables : List TableView) → Streams kinds s s ins ins (outs outlets.old tables) (outs outlets.new tables) }
     ensures written { (k : ℕ) → k < length outlets.new → (outlet_at outlets.new k).has_failed ≡ false → (outlet_at outlets.new k).waiting ≡ [] }
     ensures still { AllFaultsStay outlets.old outlets.new }
@@ -94,7 +94,7 @@ fn flush_sinks<S: Sink>(outlets: &mut [Outlet<S>]) -> Result<(), Finish>
         }
     }
     match failed {
-        Some(k) => Err(Finish::Unwritten(k)),
+        Some(k) => Err(StreamFinish::Unwritten(k)),
         None => Ok(()),
     }
 }
@@ -116,7 +116,7 @@ impl<S: Sink> Model for Outs<S> {
 
 impl<S: Sink> Outs<S> {
     /// Moves the first tokens of each channel to its sink. Returns whether it moved any, or why the stream ends.
-    pub(crate) fn tell_all<B: Body>(&mut self, flow: &mut Flow<B>) -> Result<bool, Finish>
+    pub(crate) fn tell_all<B: Body>(&mut self, flow: &mut Flow<B>) -> Result<bool, StreamFinish>
         ensures streams { (ins : List InletView) → Streams (family B.Kinds.Kinds) flow.old flow.new ins ins self.old self.new }
         ensures same { IsSameFlow flow.old flow.new }
         ensures none { result ≡ Ok false → flow.new.state ≡ flow.old.state }
@@ -136,7 +136,7 @@ impl<S: Sink> Outs<S> {
 
     /// Writes what waits and the full rows, for each sink, even if another one fails. Returns why the stream
     /// ends if one fails.
-    pub(crate) fn flush_all(&mut self) -> Result<(), Finish>
+    pub(crate) fn flush_all(&mut self) -> Result<(), StreamFinish>
         ensures streams { (kinds : Family) (s : FlowView) (ins : List InletView) → Streams kinds s s ins ins self.old self.new }
         ensures written { AreWritten self.new }
         ensures still { AllStay self.old self.new }
@@ -152,7 +152,7 @@ impl<S: Sink> Outs<S> {
     }
     /// Writes all that waits in tables, with gaps where a column is shorter, but nothing to sinks of one
     /// channel. Returns why the stream ends if a write fails.
-    pub(crate) fn end(&mut self) -> Result<(), Finish>
+    pub(crate) fn end(&mut self) -> Result<(), StreamFinish>
         ensures sinks { self.new.sinks ≡ self.old.sinks }
         ensures ends { AllEnd self.old.tables self.new.tables }
         ensures finish { IfErr result (λ f. (kinds : Family) (s : FlowView) (ins : List InletView) → IsFinish kinds s ins self.new f) }

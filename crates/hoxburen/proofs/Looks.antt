@@ -3,7 +3,7 @@ use Rattle.std.proofs.Common.{◌≡◌, ℕ, List, Option, None, Some, IfSome, 
 use Rattle.std.specs.Prelude.{IsUtf8}
 use Rattle.kpn_model.specs.Network.{Network}
 use Rattle.kpn_flow.specs.Flows.{FlowView}
-use Rattle.hox_handle.specs.declared.answers.Answer.TheVariants.{NoChannel}
+use Rattle.hox_handle.specs.declared.answers.ReturnCode.TheVariants.{NoChannel}
 use Rattle.hox_handle.specs.Answers.{answer_number}
 use Rattle.hox_handle.specs.Sessions.{IsNamedAt, IsNotNamed}
 use Rattle.hoxburen.specs.Calls.{FindsPlace, LooksAt}

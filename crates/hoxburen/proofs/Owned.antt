@@ -37,7 +37,7 @@ use Rattle.std.proofs.GlobalToken.{dealloc_token-Testable}
 use Rattle.hoxburen.specs.Handles.{boxed, holds}
 use Rattle.hox_handle.specs.contracts.session.Session as Session
 use Rattle.hox_handle.proofs.session.Session.TheLaws as session
-use Rattle.hoxburen.specs.contracts.parts.Parts as Parts
+use Rattle.hoxburen.specs.contracts.parts.BoxParts as BoxParts
 use Rattle.hoxburen.specs.contracts.handle.HoxFlow as Flow
 
 abbrev pub E : Bx
@@ -50,7 +50,7 @@ abbrev pub Z : RattleType
 Z = Heap.the_row
 
 abbrev pub PartsRow : RattleType
-PartsRow = Parts.the_row Session.the_row Heap.the_row ghosts
+PartsRow = BoxParts.the_row Session.the_row Heap.the_row ghosts
 
 abbrev pub FlowRow : RattleType
 FlowRow = Flow.the_row
@@ -114,4 +114,4 @@ module _ {M : Type 1} {𝓤 : Ura M} {𝓛 : Logic 𝓤} {K : Type 0} {Γ : List
       → Step K 𝓛 (‵ (PartsRow.own_val (record { ptr = block_ptr b o; alloc = a; value = x }) (both (vptr b o) h ∷ [])) ∷ Γ) G (‵ (boxed a (block_ptr b o) x) ∷ ‵ (Z.own_val a (h ∷ [])) ∷ Γ) G
   parts_in t b o h a x = step (λ s. let v : Val = both (vptr b o) h in
       nothing t $ move t (2 ∷ 0 ∷ []) $ fjoin t $ feq_i t (List Val) (vptr b o ∷ []) (vptr b o ∷ []) refl $ fjoin t $ feq_i t (List Val) (v ∷ []) (v ∷ []) refl $ fjoin t $
-      fpack t (Valss (RawPtr ∷ Z ∷ [])) (within (shape (Parts.the_type Session.the_row Heap.the_row ghosts)) (to (Parts.the_type Session.the_row Heap.the_row ghosts) (record { ptr = block_ptr b o; alloc = a; value = x })) (v ∷ [])) (vptr b o ∷ [], (h ∷ [], tt)) $ fjoin t $ s)
+      fpack t (Valss (RawPtr ∷ Z ∷ [])) (within (shape (BoxParts.the_type Session.the_row Heap.the_row ghosts)) (to (BoxParts.the_type Session.the_row Heap.the_row ghosts) (record { ptr = block_ptr b o; alloc = a; value = x })) (v ∷ [])) (vptr b o ∷ [], (h ∷ [], tt)) $ fjoin t $ s)

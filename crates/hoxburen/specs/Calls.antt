@@ -7,13 +7,13 @@ use Rattle.kpn_sketch.specs.Fault.{number_of_fault}
 use Rattle.kpn_flow.specs.declared.pause.Pause.{Pause}
 use Rattle.kpn_flow.specs.Flows.{FlowView}
 use Rattle.kpn_flow.specs.Stands.{IsStand}
-use Rattle.hox_handle.specs.declared.answers.Answer.{Answer}
-use Rattle.hox_handle.specs.declared.answers.Answer.TheVariants.{Done, Description, Closed, Open, NoChannel}
-use Rattle.hox_handle.specs.declared.opening.OpenFault.{OpenFault}
-use Rattle.hox_handle.specs.declared.running.Told.{Told}
+use Rattle.hox_handle.specs.declared.answers.ReturnCode.{ReturnCode}
+use Rattle.hox_handle.specs.declared.answers.ReturnCode.TheVariants.{Done, Description, Closed, Open, NoChannel}
+use Rattle.hox_handle.specs.declared.opening.SessionFault.{SessionFault}
+use Rattle.hox_handle.specs.declared.running.RunReport.{RunReport}
 use Rattle.hox_handle.specs.Answers.{answer_number, end_number, pause_number}
 use Rattle.hox_handle.specs.Checking.{Checks, LoadsText}
-use Rattle.hox_handle.specs.Opening.{answer_of, Opens, IsOpenFault}
+use Rattle.hox_handle.specs.Opening.{answer_of, Opens, IsSessionFault}
 use Rattle.hox_handle.specs.Reports.{TellsStand}
 use Rattle.hox_handle.specs.Running.{RunsTo}
 use Rattle.hox_handle.specs.Texts.{IsCopied}
@@ -29,13 +29,13 @@ abbrev pub LooksAt : Option FlowView → Option FlowView → ℕ → Type 0 → 
 LooksAt before after answer nothing tells = OnFlow before after answer nothing (λ s t. (t ≡ s) × tells s)
 
 abbrev pub FeedsWords : FlowView → FlowView → ℕ → List ℕ → ℕ → ℕ → Type 0
-FeedsWords s t place words fed number = (answer : Answer) × FeedsAt s t place words (record { count = fed; answer = answer }) × (number ≡ answer_number answer)
+FeedsWords s t place words fed number = (answer : ReturnCode) × FeedsAt s t place words (record { count = fed; answer = answer }) × (number ≡ answer_number answer)
 
 abbrev pub DrainsWords : FlowView → FlowView → ℕ → List ℕ → List ℕ → ℕ → ℕ → Type 0
-DrainsWords s t place before after drained number = (answer : Answer) × DrainsAt s t place before after (record { count = drained; answer = answer }) × (number ≡ answer_number answer)
+DrainsWords s t place before after drained number = (answer : ReturnCode) × DrainsAt s t place before after (record { count = drained; answer = answer }) × (number ≡ answer_number answer)
 
 abbrev pub EndsInput : FlowView → FlowView → ℕ → ℕ → Type 0
-EndsInput s t place number = (answer : Answer) × EndsAt s t place answer × (number ≡ answer_number answer)
+EndsInput s t place number = (answer : ReturnCode) × EndsAt s t place answer × (number ≡ answer_number answer)
 
 abbrev pub Advances : FlowView → FlowView → ℕ → ℕ → ℕ → Type 0
 Advances s t most pause number = (why : Pause) × GoesOn s t most why × (pause ≡ pause_number why) × (number ≡ 0)
@@ -61,7 +61,7 @@ TellsVerdict s verdict number = (stand : Pause) × IsStand flow_kinds s.network 
 abbrev pub OpensFlow : List ℕ → List ℕ → List ℕ → Option FlowView → Option FlowView → ℕ → Type 0
 OpensFlow text inputs outputs (Some s) after number = (after ≡ Some s) × (number ≡ answer_number Open)
 OpensFlow text inputs outputs None after number =
-    ((t : FlowView) × (after ≡ Some t) × Opens text inputs outputs t × (number ≡ 0)) ⊎ ((fault : OpenFault) × IsOpenFault text inputs outputs fault × (after ≡ None) × (number ≡ answer_number (answer_of fault)))
+    ((t : FlowView) × (after ≡ Some t) × Opens text inputs outputs t × (number ≡ 0)) ⊎ ((fault : SessionFault) × IsSessionFault text inputs outputs fault × (after ≡ None) × (number ≡ answer_number (answer_of fault)))
 
 -- a message is in the buffer, or none
 abbrev pub IsMessage : List ℕ → List ℕ → ℕ → Type 0
@@ -69,12 +69,12 @@ IsMessage before after length = ((message : List ℕ) × IsCopied message before
 
 -- the text describes a network, without a message; or it has this fault, perhaps with one
 abbrev pub ChecksText : List ℕ → List ℕ → List ℕ → ℕ → ℕ → Type 0
-ChecksText text before after length number = (answer : Answer) × Checks text answer × (number ≡ answer_number answer) × IsMessage before after length × (answer ≡ Done → length ≡ 0)
+ChecksText text before after length number = (answer : ReturnCode) × Checks text answer × (number ≡ answer_number answer) × IsMessage before after length × (answer ≡ Done → length ≡ 0)
 
 -- the text's network was run, and its report is in the buffer; or the text has this fault
 abbrev pub RunsText : List ℕ → List ℕ → List ℕ → ℕ → ℕ → Type 0
 RunsText text before after length number =
-    ((told : Told) × RunsTo text told × (number ≡ end_number told.end) × IsCopied (string_bytes told.report) before after length)
+    ((told : RunReport) × RunsTo text told × (number ≡ end_number told.end) × IsCopied (string_bytes told.report) before after length)
     ⊎ ((fault : NetFault) × LoadsText text (Err fault) × (number ≡ number_of_fault fault) × IsMessage before after length)
 
 -- the report is in the buffer; or out of memory

@@ -3,7 +3,7 @@ ghost use Rattle.std.specs.Prelude.{◌≡◌, Option, None, Some, MatchOption};
 ghost use Rattle.kpn_flow.specs.Flows.{FlowView};
 ghost use Rattle.hoxburen.specs.Handles.{holds, kept_coded};
 
-use crate::parts::Parts;
+use crate::parts::BoxParts;
 use hox_handle::Session;
 use std::alloc::Global;
 use std::marker::Model;
@@ -33,24 +33,24 @@ impl HoxFlow {
         }
     }
 
-    fn of_parts(parts: Parts<Session, Global>) -> HoxFlow
+    fn of_parts(parts: BoxParts<Session, Global>) -> HoxFlow
         ensures { result.kept ≡ Some parts.value }
     {
-        let Parts { ptr, alloc } = parts;
+        let BoxParts { ptr, alloc } = parts;
         HoxFlow {
             at: ptr as *mut u8,
             alloc,
         }
     }
 
-    fn into_parts(self) -> Option<Parts<Session, Global>>
+    fn into_parts(self) -> Option<BoxParts<Session, Global>>
         ensures { MatchOption result (self.kept ≡ None) (λ parts. self.kept ≡ Some parts.value) }
     {
         let HoxFlow { at, alloc } = self;
         if at.is_null() {
             None
         } else {
-            Some(Parts {
+            Some(BoxParts {
                 ptr: at as *mut Session,
                 alloc,
             })
@@ -72,7 +72,7 @@ impl HoxFlow {
     pub(crate) fn put(&mut self, session: Box<Session>)
         ensures { self.new.kept ≡ Some session.value }
     {
-        match mem::replace(self, HoxFlow::of_parts(Parts::of(session))).into_parts() {
+        match mem::replace(self, HoxFlow::of_parts(BoxParts::of(session))).into_parts() {
             Some(parts) => drop(parts.into_box()),
             None => {}
         }

@@ -5,7 +5,7 @@ ghost use Rattle.hox_handle.specs.Sessions.{fill, may_feed};
 ghost use Rattle.hoxburen.specs.Calls.{IsReported, LooksAt, TellsFill, TellsFlag, TellsVerdict};
 
 use crate::handle::HoxFlow;
-use hox_handle::{Answer, copy_out, pause_number};
+use hox_handle::{ReturnCode, copy_out, pause_number};
 use kpn_net::NetFault;
 use std::alloc::Global;
 
@@ -26,7 +26,7 @@ pub extern "C" fn hox_may_feed(
             flow.put(session);
             tell_flag(told, may)
         }
-        None => Answer::Closed.number(),
+        None => ReturnCode::Closed.number(),
     }
 }
 
@@ -47,7 +47,7 @@ pub extern "C" fn hox_waits_for_input(
             flow.put(session);
             tell_flag(told, waits)
         }
-        None => Answer::Closed.number(),
+        None => ReturnCode::Closed.number(),
     }
 }
 
@@ -68,7 +68,7 @@ pub extern "C" fn hox_waits_for_output(
             flow.put(session);
             tell_flag(told, waits)
         }
-        None => Answer::Closed.number(),
+        None => ReturnCode::Closed.number(),
     }
 }
 
@@ -78,11 +78,11 @@ fn tell_flag(told: Option<bool>, out: &mut u32) -> u32
     match told {
         Some(flag) => {
             *out = u32::from(flag);
-            Answer::Done.number()
+            ReturnCode::Done.number()
         }
         None => {
             *out = 0;
-            Answer::NoChannel.number()
+            ReturnCode::NoChannel.number()
         }
     }
 }
@@ -106,7 +106,7 @@ pub extern "C" fn hox_input_fill(
             flow.put(session);
             tell_fill(told, held, capacity)
         }
-        None => Answer::Closed.number(),
+        None => ReturnCode::Closed.number(),
     }
 }
 
@@ -129,7 +129,7 @@ pub extern "C" fn hox_output_fill(
             flow.put(session);
             tell_fill(told, held, capacity)
         }
-        None => Answer::Closed.number(),
+        None => ReturnCode::Closed.number(),
     }
 }
 
@@ -140,12 +140,12 @@ fn tell_fill(told: Option<(usize, usize)>, held: &mut u64, capacity: &mut u64) -
         Some((tokens, room)) => {
             *held = tokens as u64;
             *capacity = room as u64;
-            Answer::Done.number()
+            ReturnCode::Done.number()
         }
         None => {
             *held = 0;
             *capacity = 0;
-            Answer::NoChannel.number()
+            ReturnCode::NoChannel.number()
         }
     }
 }
@@ -166,9 +166,9 @@ pub extern "C" fn hox_entries(
         Some(session) => {
             (*entries, *growths) = session.entries();
             flow.put(session);
-            Answer::Done.number()
+            ReturnCode::Done.number()
         }
-        None => Answer::Closed.number(),
+        None => ReturnCode::Closed.number(),
     }
 }
 
@@ -182,9 +182,9 @@ pub extern "C" fn hox_verdict(alloc: Global, flow: &mut HoxFlow, verdict: &mut u
         Some(session) => {
             *verdict = pause_number(session.stand());
             flow.put(session);
-            Answer::Done.number()
+            ReturnCode::Done.number()
         }
-        None => Answer::Closed.number(),
+        None => ReturnCode::Closed.number(),
     }
 }
 
@@ -206,11 +206,11 @@ pub extern "C" fn hox_report(
             match told {
                 Ok(text) => {
                     *length = copy_out(text.as_bytes(), report);
-                    Answer::Done.number()
+                    ReturnCode::Done.number()
                 }
-                Err(_) => Answer::Description(NetFault::Memory).number(),
+                Err(_) => ReturnCode::Description(NetFault::Memory).number(),
             }
         }
-        None => Answer::Closed.number(),
+        None => ReturnCode::Closed.number(),
     }
 }

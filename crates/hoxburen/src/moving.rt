@@ -3,7 +3,7 @@ ghost use Rattle.std.specs.Prelude.{◌≡◌, ⊤};
 ghost use Rattle.hoxburen.specs.Calls.{Advances, DrainsWords, EndsInput, FeedsWords, OnFlow};
 
 use crate::handle::HoxFlow;
-use hox_handle::{Answer, pause_number};
+use hox_handle::{ReturnCode, pause_number};
 use std::alloc::Global;
 
 /// Feeds words into the input at a place; `fed` is the number taken.
@@ -25,7 +25,7 @@ pub extern "C" fn hox_feed(
             *fed = moved.count;
             moved.answer.number()
         }
-        None => Answer::Closed.number(),
+        None => ReturnCode::Closed.number(),
     }
 }
 
@@ -40,9 +40,9 @@ pub extern "C" fn hox_advance(alloc: Global, flow: &mut HoxFlow, most: u64, paus
             let why = session.advance(most);
             flow.put(session);
             *pause = pause_number(why);
-            Answer::Done.number()
+            ReturnCode::Done.number()
         }
-        None => Answer::Closed.number(),
+        None => ReturnCode::Closed.number(),
     }
 }
 
@@ -65,7 +65,7 @@ pub extern "C" fn hox_drain(
             *drained = moved.count;
             moved.answer.number()
         }
-        None => Answer::Closed.number(),
+        None => ReturnCode::Closed.number(),
     }
 }
 
@@ -80,6 +80,6 @@ pub extern "C" fn hox_end_input(alloc: Global, flow: &mut HoxFlow, input: usize)
             flow.put(session);
             answer.number()
         }
-        None => Answer::Closed.number(),
+        None => ReturnCode::Closed.number(),
     }
 }

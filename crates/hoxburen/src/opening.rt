@@ -1,12 +1,12 @@
 //! Opens and closes flows, and finds their channels.
 ghost use Rattle.std.specs.Prelude.{◌≡◌, None, IfErr, IfNone, IfOk, IfSome};
 ghost use Rattle.hox_handle.specs.Answers.{answer_number};
-ghost use Rattle.hox_handle.specs.Opening.{IsOpenFault, Opens};
+ghost use Rattle.hox_handle.specs.Opening.{IsSessionFault, Opens};
 ghost use Rattle.hoxburen.specs.Calls.{close_number, FindsPlace, IsMessage, LooksAt, OpensFlow};
 
 use crate::handle::HoxFlow;
 use crate::slices::bytes_of;
-use hox_handle::{Answer, OpenFault, Session, copy_out};
+use hox_handle::{ReturnCode, Session, SessionFault, copy_out};
 use hox_stream::StreamFault;
 use std::alloc::Global;
 
@@ -30,14 +30,14 @@ pub extern "C" fn hox_open(
     match flow.take(alloc) {
         Some(session) => {
             flow.put(session);
-            Answer::Open.number()
+            ReturnCode::Open.number()
         }
         None => {
             let (text, inputs, outputs) = (bytes_of(text), bytes_of(inputs), bytes_of(outputs));
             match open_boxed(alloc, text, inputs, outputs) {
                 Ok(session) => {
                     flow.put(session);
-                    Answer::Done.number()
+                    ReturnCode::Done.number()
                 }
                 Err(fault) => {
                     if let Some(said) = fault.message(alloc, text, inputs, outputs) {
@@ -55,14 +55,14 @@ fn open_boxed(
     text: &[u8],
     inputs: &[u8],
     outputs: &[u8],
-) -> Result<Box<Session>, OpenFault>
+) -> Result<Box<Session>, SessionFault>
     ensures ok { IfOk result (λ session. Opens text.now inputs.now outputs.now session.value) }
-    ensures fault { IfErr result (IsOpenFault text.now inputs.now outputs.now) }
+    ensures fault { IfErr result (IsSessionFault text.now inputs.now outputs.now) }
 {
     let session = Session::open(alloc, text, inputs, outputs)?;
     match Box::new(alloc, session) {
         Ok(session) => Ok(session),
-        Err(_) => Err(OpenFault::Unopened(StreamFault::Memory)),
+        Err(_) => Err(SessionFault::Unopened(StreamFault::Memory)),
     }
 }
 
@@ -73,8 +73,8 @@ pub extern "C" fn hox_close(alloc: Global, flow: &mut HoxFlow) -> u32
     ensures answer { result ≡ close_number flow.old.kept }
 {
     match flow.take(alloc) {
-        Some(_) => Answer::Done.number(),
-        None => Answer::Closed.number(),
+        Some(_) => ReturnCode::Done.number(),
+        None => ReturnCode::Closed.number(),
     }
 }
 
@@ -95,7 +95,7 @@ pub extern "C" fn hox_input(
             flow.put(session);
             place_told(found, input)
         }
-        None => Answer::Closed.number(),
+        None => ReturnCode::Closed.number(),
     }
 }
 
@@ -116,22 +116,22 @@ pub extern "C" fn hox_output(
             flow.put(session);
             place_told(found, output)
         }
-        None => Answer::Closed.number(),
+        None => ReturnCode::Closed.number(),
     }
 }
 
 fn place_told(found: Option<usize>, place: &mut usize) -> u32
     ensures found { IfSome found (λ k. (place.new ≡ k) × (result ≡ 0)) }
-    ensures none { IfNone found ((place.new ≡ 0) × (result ≡ answer_number Answer.NoChannel)) }
+    ensures none { IfNone found ((place.new ≡ 0) × (result ≡ answer_number ReturnCode.NoChannel)) }
 {
     match found {
         Some(k) => {
             *place = k;
-            Answer::Done.number()
+            ReturnCode::Done.number()
         }
         None => {
             *place = 0;
-            Answer::NoChannel.number()
+            ReturnCode::NoChannel.number()
         }
     }
 }

@@ -6,32 +6,32 @@ use std::alloc::Allocator;
 use std::marker::Model;
 
 /// The pointer and the allocator of a box, which own what the box owned. `value` is the box's value.
-pub struct Parts<T, A: Allocator> {
+pub struct BoxParts<T, A: Allocator> {
     pub(crate) ptr: *mut T,
     pub(crate) alloc: A,
     pub ghost value: { T },
 }
 
-impl<T, A: Allocator> Model for Parts<T, A> {
+impl<T, A: Allocator> Model for BoxParts<T, A> {
     ghost also_owns = { λ p. box_owns (A.dealloc_token p.alloc) T.row p.ptr p.value };
 }
 
-impl<T, A: Allocator> Parts<T, A> {
+impl<T, A: Allocator> BoxParts<T, A> {
     /// Takes a box apart.
-    pub fn of(boxed: Box<T, A>) -> Parts<T, A>
+    pub fn of(boxed: Box<T, A>) -> BoxParts<T, A>
     where
         T: Drop,
         ensures { result.value ≡ boxed.value }
     {
         let (ptr, alloc) = Box::into_raw_with_allocator(boxed);
-        Parts { ptr, alloc }
+        BoxParts { ptr, alloc }
     }
 
     /// Restores the box.
     pub fn into_box(self) -> Box<T, A>
         ensures { result.value ≡ self.value }
     {
-        let Parts { ptr, alloc } = self;
+        let BoxParts { ptr, alloc } = self;
         unsafe { Box::from_raw(alloc, ptr) }
     }
 }

@@ -3,7 +3,7 @@ ghost use Rattle.std.specs.Prelude.{◌≡◌};
 ghost use Rattle.hoxburen.specs.Calls.{ChecksText, IsMessage, RunsText};
 
 use crate::slices::bytes_of;
-use hox_handle::{Answer, check, copy_out, end_number, message_of_fault, run};
+use hox_handle::{ReturnCode, check, copy_out, end_number, message_of_fault, run};
 use kpn_net::NetFault;
 use std::alloc::Global;
 
@@ -48,17 +48,17 @@ pub extern "C" fn hox_run(alloc: Global, text: &[u8], report: &mut [u8], length:
         }
         Err(fault) => {
             *length = say_fault(alloc, text, fault, report);
-            Answer::Description(fault).number()
+            ReturnCode::Description(fault).number()
         }
     }
 }
 
-fn say_answer(alloc: Global, text: &[u8], answer: Answer, buffer: &mut [u8]) -> usize
+fn say_answer(alloc: Global, text: &[u8], answer: ReturnCode, buffer: &mut [u8]) -> usize
     ensures message { IsMessage buffer.old buffer.new result }
-    ensures none { answer ≡ Answer.Done → result ≡ 0 }
+    ensures none { answer ≡ ReturnCode.Done → result ≡ 0 }
 {
     match answer {
-        Answer::Description(fault) => say_fault(alloc, text, fault, buffer),
+        ReturnCode::Description(fault) => say_fault(alloc, text, fault, buffer),
         _ => 0,
     }
 }

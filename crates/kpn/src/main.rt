@@ -3,7 +3,7 @@
 
 use kpn_args::WordsFault;
 use kpn_execute::{Served, serve};
-use kpn_front::{Fallible, Status};
+use kpn_front::{ExitStatus, Fallible};
 use std::process::ExitCode;
 use std::rt::{Clock, Env};
 use std::sync::Wait;
@@ -73,7 +73,7 @@ fn say_input<R: Eprint>(rt: &R, command: &str, file: &str) {
 
 fn say_no_memory<R: Eprint>(rt: &R) -> u8 {
     let _ = eprintln!(rt; "kpn: out of memory while reading the arguments");
-    Status::WrongArguments.code()
+    ExitStatus::WrongArguments.code()
 }
 
 /// Returns the arguments; the first is the program's name.
@@ -99,6 +99,6 @@ fn say_words_refused<R: Print + Eprint>(rt: &R, fault: &WordsFault) -> u8 {
     };
     match said {
         Ok(()) => fault.status().code(),
-        Err(_) => Status::WriteFailed.code(),
+        Err(_) => ExitStatus::WriteFailed.code(),
     }
 }

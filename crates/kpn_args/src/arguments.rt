@@ -8,7 +8,7 @@ ghost use Rattle.kpn_args.specs.Choices.{IsWorkers, WorkersFrom, IsRefusedWorker
 use crate::making::{with_arg, with_subcommand};
 use clap::error::ErrorKind;
 use clap::{Arg, ArgMatches, Command};
-use kpn_front::Status;
+use kpn_front::ExitStatus;
 use std::alloc::{AllocError, Global};
 use std::{error, fmt};
 
@@ -106,13 +106,13 @@ impl WordsFault {
     }
 
     /// Returns `Success` if help or the version was asked for, otherwise `WrongArguments`.
-    pub fn status(&self) -> Status
-        ensures { result ≡ (if asks_for_help self.now then Status.Success else Status.WrongArguments) }
+    pub fn status(&self) -> ExitStatus
+        ensures { result ≡ (if asks_for_help self.now then ExitStatus.Success else ExitStatus.WrongArguments) }
     {
         if self.asks_for_help() {
-            Status::Success
+            ExitStatus::Success
         } else {
-            Status::WrongArguments
+            ExitStatus::WrongArguments
         }
     }
 }

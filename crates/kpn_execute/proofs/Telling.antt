@@ -24,8 +24,8 @@ use Rattle.kpn_run.proofs.RunReports.{at_rest, over_of}
 use Rattle.kpn_laws.specs.RoomOfRun.{TakesLeastRoom}
 use Rattle.kpn_laws.specs.StreamsOfRun.{ApproachLeastSolution}
 use Rattle.kpn_report.specs.Text.{end_line, digest_text, report_text}
-use Rattle.kpn_front.specs.declared.status.Status.{Status}
-use Rattle.kpn_front.specs.declared.status.Status.TheVariants.{WriteFailed}
+use Rattle.kpn_front.specs.declared.status.ExitStatus.{ExitStatus}
+use Rattle.kpn_front.specs.declared.status.ExitStatus.TheVariants.{WriteFailed}
 use Rattle.kpn_execute.specs.Execution.{status_of_end, TellsRun}
 
 module _ (kinds : Family) (net : Network) where
@@ -51,7 +51,7 @@ justified_by kinds admits s cause faithful ended = subst (MayStand kinds s.netwo
 
 -- the text of a run that ended is that of its history
 pub run_told :
-    (kinds : Family) (admits : Card → List ℕ → Option Token → Type 0) (s : MachineView) (cause : End) (places : List Place) (channel : Option ℕ) (status : Status) (bytes : List ℕ) → IsFaithful kinds admits s → TakesLeastRoom kinds s.network s.history s.state → ApproachLeastSolution kinds s.network s.history s.state → s.end ≡ Some cause
+    (kinds : Family) (admits : Card → List ℕ → Option Token → Type 0) (s : MachineView) (cause : End) (places : List Place) (channel : Option ℕ) (status : ExitStatus) (bytes : List ℕ) → IsFaithful kinds admits s → TakesLeastRoom kinds s.network s.history s.state → ApproachLeastSolution kinds s.network s.history s.state → s.end ≡ Some cause
     → places ≡ each_process s.network (λ p. place_of s.network p (parked_answer (standing s.standings p))) → OneDigest kinds
     → ((has_report cause ≡ true → places ≡ each_process s.network (λ p. place_of s.network p (wants kinds s.network s.state p))) → bytes ≡ report_text kinds s.network cause s.history s.state channel)
     → status ≡ status_of_end cause → TellsRun kinds s.network channel status bytes

@@ -1,17 +1,17 @@
 -- What is said is written, and what it tells may be told by more.
 use Rattle.std.proofs.Common.{ℕ, List, refl}
 use Rattle.kpn_sketch.specs.declared.fault.NetFault.TheVariants.{Memory}
-use Rattle.kpn_front.specs.declared.status.Status.{Status}
-use Rattle.kpn_front.specs.declared.status.Status.TheVariants.{MemoryRefused}
+use Rattle.kpn_front.specs.declared.status.ExitStatus.{ExitStatus}
+use Rattle.kpn_front.specs.declared.status.ExitStatus.TheVariants.{MemoryRefused}
 use Rattle.kpn_front.specs.Lines.{refused_line}
 use Rattle.kpn_front.specs.Written.{SinkView, Says}
 use Rattle.kpn_execute.specs.Execution.{TellsNoMemory, Writes}
 
 module _ {before after : SinkView} {number : ℕ} where
-  pub written : {tells : Status → List ℕ → Type 0} {status : Status} {text : List ℕ} → Says status text before after number → tells status text → Writes tells before after number
+  pub written : {tells : ExitStatus → List ℕ → Type 0} {status : ExitStatus} {text : List ℕ} → Says status text before after number → tells status text → Writes tells before after number
   written {tells} {status} {text} says told = record { status = status; text = text; told = told; says = says }
 
-  pub written_of : {narrow tells : Status → List ℕ → Type 0} → ((status : Status) (text : List ℕ) → narrow status text → tells status text) → Writes narrow before after number → Writes tells before after number
+  pub written_of : {narrow tells : ExitStatus → List ℕ → Type 0} → ((status : ExitStatus) (text : List ℕ) → narrow status text → tells status text) → Writes narrow before after number → Writes tells before after number
   written_of more w = record { status = w.status; text = w.text; told = more w.status w.text w.told; says = w.says }
 
 -- that memory was refused is told so

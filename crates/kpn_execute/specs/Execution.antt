@@ -11,12 +11,12 @@ use Rattle.kpn_model.specs.Endings.{MayEnd, has_report}
 use Rattle.kpn_laws.specs.RoomOfRun.{TakesLeastRoom}
 use Rattle.kpn_laws.specs.StreamsOfRun.{ApproachLeastSolution}
 use Rattle.kpn_report.specs.Text.{report_text}
-use Rattle.kpn_front.specs.declared.status.Status.{Status}
-use Rattle.kpn_front.specs.declared.status.Status.TheVariants.{Success, WrongArguments, BudgetSpent, MemoryRefused, Deadlocked, AtCeiling, Lost}
+use Rattle.kpn_front.specs.declared.status.ExitStatus.{ExitStatus}
+use Rattle.kpn_front.specs.declared.status.ExitStatus.TheVariants.{Success, WrongArguments, BudgetSpent, MemoryRefused, Deadlocked, AtCeiling, Lost}
 use Rattle.kpn_front.specs.Lines.{lost_line, refused_line, no_channel_line}
 use Rattle.kpn_front.specs.Written.{SinkView, Says}
 
-abbrev pub status_of_end : End → Status
+abbrev pub status_of_end : End → ExitStatus
 status_of_end Terminated = Success
 status_of_end Budget = BudgetSpent
 status_of_end Memory = MemoryRefused
@@ -24,7 +24,7 @@ status_of_end Deadlock = Deadlocked
 status_of_end Ceiling = AtCeiling
 
 -- no channel has the name given by `--show`
-pub record TellsNoChannel (net : Network) (show : Option (List ℕ)) (status : Status) (text : List ℕ) : Type 0 where
+pub record TellsNoChannel (net : Network) (show : Option (List ℕ)) (status : ExitStatus) (text : List ℕ) : Type 0 where
   pub name : List ℕ
   pub asked : show ≡ Some name
   pub unknown : number_of_channel net name ≡ None
@@ -37,12 +37,12 @@ IsChannelToShow net None channel = channel ≡ None
 IsChannelToShow net (Some name) channel = (channel ≡ number_of_channel net name) × (channel ≢ None)
 
 -- out of memory, before the first deed or for the report
-pub record TellsNoMemory (status : Status) (text : List ℕ) : Type 0 where
+pub record TellsNoMemory (status : ExitStatus) (text : List ℕ) : Type 0 where
   pub status_is : status ≡ MemoryRefused
   pub text_is : text ≡ refused_line OutOfMemory
 
 -- an answer of one of several workers was refused
-pub record TellsLost (workers : ℕ) (status : Status) (text : List ℕ) : Type 0 where
+pub record TellsLost (workers : ℕ) (status : ExitStatus) (text : List ℕ) : Type 0 where
   pub several : 1 < workers
   pub status_is : status ≡ Lost
   pub text_is : text ≡ lost_line
@@ -53,7 +53,7 @@ IsTextOfEveryRun kinds net channel text = (F : List Entry) (N : State) (b : End)
 
 -- a run ended, with a justified end; it took no more room than the network needs, and its streams approach
 -- the least solution
-pub record TellsRun (kinds : Family) (net : Network) (channel : Option ℕ) (status : Status) (text : List ℕ) : Type 0 where
+pub record TellsRun (kinds : Family) (net : Network) (channel : Option ℕ) (status : ExitStatus) (text : List ℕ) : Type 0 where
   pub history : List Entry
   pub state : State
   pub cause : End
@@ -66,24 +66,24 @@ pub record TellsRun (kinds : Family) (net : Network) (channel : Option ℕ) (sta
   pub every : has_report cause ≡ true → IsTextOfEveryRun kinds net channel text
 
 -- written of a run that ended
-abbrev pub TellsEnded : Family → Network → Option ℕ → Status → List ℕ → Type 0
+abbrev pub TellsEnded : Family → Network → Option ℕ → ExitStatus → List ℕ → Type 0
 TellsEnded kinds net channel status text = TellsNoMemory status text ⊎ TellsRun kinds net channel status text
 
 -- written of a network run by this number of workers, if `--show` is absent or names a channel
-abbrev pub TellsShown : Family → Network → ℕ → Option ℕ → Status → List ℕ → Type 0
+abbrev pub TellsShown : Family → Network → ℕ → Option ℕ → ExitStatus → List ℕ → Type 0
 TellsShown kinds net workers channel status text = TellsLost workers status text ⊎ TellsEnded kinds net channel status text
 
 -- written of a network run by this number of workers, and the status
-abbrev pub Tells : Family → Network → ℕ → Option (List ℕ) → Status → List ℕ → Type 0
+abbrev pub Tells : Family → Network → ℕ → Option (List ℕ) → ExitStatus → List ℕ → Type 0
 Tells kinds net workers show status text = TellsNoChannel net show status text ⊎ ((channel : Option ℕ) × IsChannelToShow net show channel × TellsShown kinds net workers channel status text)
 
 -- or out of memory for the bodies
-abbrev pub TellsOrNoMemory : Family → Network → ℕ → Option (List ℕ) → Status → List ℕ → Type 0
+abbrev pub TellsOrNoMemory : Family → Network → ℕ → Option (List ℕ) → ExitStatus → List ℕ → Type 0
 TellsOrNoMemory kinds net workers show status text = TellsNoMemory status text ⊎ Tells kinds net workers show status text
 
 -- a text is written, with its status
-pub record Writes (tells : Status → List ℕ → Type 0) (before after : SinkView) (number : ℕ) : Type 0 where
-  pub status : Status
+pub record Writes (tells : ExitStatus → List ℕ → Type 0) (before after : SinkView) (number : ℕ) : Type 0 where
+  pub status : ExitStatus
   pub text : List ℕ
   pub told : tells status text
   pub says : Says status text before after number

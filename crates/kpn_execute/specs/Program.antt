@@ -7,8 +7,8 @@ use Rattle.kpn_standard.specs.Standard.{standard}
 use Rattle.kpn_standard.specs.Signatures.{named, signature}
 use Rattle.kpn_args.specs.declared.arguments.Choice.{Choice}
 use Rattle.kpn_args.specs.declared.arguments.Choice.TheVariants.{Check, Run}
-use Rattle.kpn_front.specs.declared.status.Status.{Status}
-use Rattle.kpn_front.specs.declared.status.Status.TheVariants.{Success}
+use Rattle.kpn_front.specs.declared.status.ExitStatus.{ExitStatus}
+use Rattle.kpn_front.specs.declared.status.ExitStatus.TheVariants.{Success}
 use Rattle.kpn_front.specs.Lines.{checked_line, refused_line, status_of_fault}
 use Rattle.kpn_front.specs.Loading.{Loads}
 use Rattle.kpn_front.specs.Written.{SinkView}
@@ -19,12 +19,12 @@ fault_of (Ok net) = None
 fault_of (Err fault) = Some fault
 
 -- written of a network: that it is one, or how it ran
-abbrev pub TellsOf : Choice → Network → Status → List ℕ → Type 0
+abbrev pub TellsOf : Choice → Network → ExitStatus → List ℕ → Type 0
 TellsOf Check net status text = (status ≡ Success) × (text ≡ checked_line net)
 TellsOf (Run workers show) net status text = TellsOrNoMemory standard net workers (option_map (λ s. s.now) show) status text
 
 -- written of a description that was loaded or refused
-abbrev pub TellsLoaded : Choice → Result Network NetFault → Status → List ℕ → Type 0
+abbrev pub TellsLoaded : Choice → Result Network NetFault → ExitStatus → List ℕ → Type 0
 TellsLoaded choice (Ok net) status text = TellsOf choice net status text
 TellsLoaded choice (Err fault) status text = (status ≡ status_of_fault fault) × (text ≡ refused_line fault)
 

@@ -6,7 +6,7 @@ ghost use Rattle.kpn_machine.specs.Opening.{cards_of};
 ghost use Rattle.kpn_execute.specs.Execution.{status_of_end, IsChannelToShow, Executes, TellsEnded, TellsShown, TellsRun, Writes};
 
 use kpn_body::Body;
-use kpn_front::{Sink, Status, say, say_lost, say_no_channel, say_refused};
+use kpn_front::{ExitStatus, Sink, say, say_lost, say_no_channel, say_refused};
 use kpn_laws::{determinacy_of, least_room_of, least_solution_of};
 use kpn_machine::{Chronicle, Machine};
 use kpn_net::{End, Kinds, Net, NetFault};
@@ -21,7 +21,7 @@ use std::thread::Threads;
 /// The text about a run, and its status.
 #[derive(Drop)]
 struct Told {
-    status: Status,
+    status: ExitStatus,
     text: String,
 }
 
@@ -199,14 +199,14 @@ fn told_of<K: Kinds, H: Keeper, E: Entries>(
     })
 }
 
-fn status_of(end: End) -> Status
+fn status_of(end: End) -> ExitStatus
     ensures { result ≡ status_of_end end }
 {
     match end {
-        End::Terminated => Status::Success,
-        End::Budget => Status::BudgetSpent,
-        End::Memory => Status::MemoryRefused,
-        End::Deadlock => Status::Deadlocked,
-        End::Ceiling => Status::AtCeiling,
+        End::Terminated => ExitStatus::Success,
+        End::Budget => ExitStatus::BudgetSpent,
+        End::Memory => ExitStatus::MemoryRefused,
+        End::Deadlock => ExitStatus::Deadlocked,
+        End::Ceiling => ExitStatus::AtCeiling,
     }
 }

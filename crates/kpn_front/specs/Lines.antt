@@ -4,8 +4,8 @@ use Rattle.kpn_sketch.specs.declared.fault.NetFault.{NetFault}
 use Rattle.kpn_sketch.specs.declared.fault.NetFault.TheVariants.{Memory}
 use Rattle.kpn_sketch.specs.Fault.{number_of_fault}
 use Rattle.kpn_model.specs.Network.{Network}
-use Rattle.kpn_front.specs.declared.status.Status.{Status}
-use Rattle.kpn_front.specs.declared.status.Status.TheVariants.{Refused, MemoryRefused}
+use Rattle.kpn_front.specs.declared.status.ExitStatus.{ExitStatus}
+use Rattle.kpn_front.specs.declared.status.ExitStatus.TheVariants.{Refused, MemoryRefused}
 
 -- written about a network that is accepted
 abbrev pub checked_line : Network → List ℕ
@@ -15,7 +15,7 @@ checked_line net = codes "ok " ++ (decimal (length net.processes) ++ (codes " pr
 abbrev pub refused_line : NetFault → List ℕ
 refused_line fault = codes "refused " ++ (decimal (number_of_fault fault) ++ codes "\n")
 
-abbrev pub status_of_fault : NetFault → Status
+abbrev pub status_of_fault : NetFault → ExitStatus
 status_of_fault Memory = MemoryRefused
 status_of_fault _ = Refused
 

@@ -1,9 +1,9 @@
 -- The numbers of exit statuses.
 use Rattle.std.specs.Prelude.{ℕ}
-use Rattle.kpn_front.specs.declared.status.Status.{Status}
-use Rattle.kpn_front.specs.declared.status.Status.TheVariants.{Success, WrongArguments, Refused, BudgetSpent, MemoryRefused, Deadlocked, AtCeiling, WriteFailed, Lost}
+use Rattle.kpn_front.specs.declared.status.ExitStatus.{ExitStatus}
+use Rattle.kpn_front.specs.declared.status.ExitStatus.TheVariants.{Success, WrongArguments, Refused, BudgetSpent, MemoryRefused, Deadlocked, AtCeiling, WriteFailed, Lost}
 
-abbrev pub code_of : Status → ℕ
+abbrev pub code_of : ExitStatus → ℕ
 code_of Success = 0
 code_of WrongArguments = 1
 code_of Refused = 2

@@ -1,8 +1,8 @@
 -- What is written to a sink.
 use Rattle.std.specs.Prelude.{◌≡◌, ◌≢◌, ℕ, Bool, true, List, length, Option}
 use Rattle.std.specs.Io.KnownBytes.{Appends}
-use Rattle.kpn_front.specs.declared.status.Status.{Status}
-use Rattle.kpn_front.specs.declared.status.Status.TheVariants.{WriteFailed}
+use Rattle.kpn_front.specs.declared.status.ExitStatus.{ExitStatus}
+use Rattle.kpn_front.specs.declared.status.ExitStatus.TheVariants.{WriteFailed}
 use Rattle.kpn_front.specs.Statuses.{code_of}
 
 -- a sink: what has been written, if known, and whether it takes a number of further bytes without failure
@@ -12,6 +12,6 @@ pub record SinkView : Type 0 where
 
 -- the text is written, with the status's number; or the write fails, but not if the sink takes that many
 -- bytes
-pub record Says (status : Status) (text : List ℕ) (before after : SinkView) (number : ℕ) : Type 0 where
+pub record Says (status : ExitStatus) (text : List ℕ) (before after : SinkView) (number : ℕ) : Type 0 where
   pub said : number ≢ code_of WriteFailed → (number ≡ code_of status) × Appends before.contents after.contents text
   pub written_if_it_fits : before.takes (length text) ≡ true → number ≢ code_of WriteFailed

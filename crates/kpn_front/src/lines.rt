@@ -5,7 +5,7 @@ ghost use Rattle.std.specs.Io.KnownBytes.{Appends};
 ghost use Rattle.kpn_front.specs.Lines.{checked_line, lost_line, refused_line, no_channel_line, status_of_fault};
 ghost use Rattle.kpn_front.specs.Written.{Says};
 
-use crate::status::Status;
+use crate::status::ExitStatus;
 use crate::streams::Sink;
 use arrayvec::ArrayString;
 use itoa::Buffer;
@@ -19,22 +19,22 @@ const LINE_BYTES: usize = 64;
 ///
 /// The write succeeds if the sink takes that many bytes. If it fails, some may have been written. `status`
 /// must not be `WriteFailed`.
-pub fn say<S: Sink>(sink: &mut S, text: &str, status: Status) -> u8
-    requires { status ≢ Status.WriteFailed }
+pub fn say<S: Sink>(sink: &mut S, text: &str, status: ExitStatus) -> u8
+    requires { status ≢ ExitStatus.WriteFailed }
     ensures { Says status text.now (S.seen sink.old) (S.seen sink.new) result }
 {
     match sink.write_all(text.as_bytes()) {
         Ok(()) => status.code(),
-        Err(_) => Status::WriteFailed.code(),
+        Err(_) => ExitStatus::WriteFailed.code(),
     }
 }
 
 /// Writes that a network was accepted, like `ok 2 processes 1 channels`. Returns 0, or 7 if the write fails.
 /// Takes no memory.
 pub fn say_checked<K: Kinds, S: Sink>(net: &Net<K>, sink: &mut S) -> u8
-    ensures { Says Status.Success (checked_line net.now) (S.seen sink.old) (S.seen sink.new) result }
+    ensures { Says ExitStatus.Success (checked_line net.now) (S.seen sink.old) (S.seen sink.new) result }
 {
-    say(sink, checked_text(net).as_str(), Status::Success)
+    say(sink, checked_text(net).as_str(), ExitStatus::Success)
 }
 
 /// Writes that a description was refused, like `refused 9`. Returns 4 if out of memory, 2 for any other
@@ -47,19 +47,19 @@ pub fn say_refused<S: Sink>(fault: &NetFault, sink: &mut S) -> u8
 
 /// Writes `lost`: the machine refused a worker's answer. Returns 8, or 7 if the write fails. Takes no memory.
 pub fn say_lost<S: Sink>(sink: &mut S) -> u8
-    ensures { Says Status.Lost lost_line (S.seen sink.old) (S.seen sink.new) result }
+    ensures { Says ExitStatus.Lost lost_line (S.seen sink.old) (S.seen sink.new) result }
 {
-    say(sink, "lost\n", Status::Lost)
+    say(sink, "lost\n", ExitStatus::Lost)
 }
 
 /// Writes that no channel has this name, like `no channel c9`. Returns 1, or 7 if the write fails. Takes no
 /// memory.
 pub fn say_no_channel<S: Sink>(name: &str, sink: &mut S) -> u8
-    ensures { Says Status.WrongArguments (no_channel_line name.now) (S.seen sink.old) (S.seen sink.new) result }
+    ensures { Says ExitStatus.WrongArguments (no_channel_line name.now) (S.seen sink.old) (S.seen sink.new) result }
 {
     match write_no_channel(name, sink) {
-        Ok(()) => Status::WrongArguments.code(),
-        Err(_) => Status::WriteFailed.code(),
+        Ok(()) => ExitStatus::WrongArguments.code(),
+        Err(_) => ExitStatus::WriteFailed.code(),
     }
 }
 
@@ -74,12 +74,12 @@ fn write_no_channel<S: Sink>(name: &str, sink: &mut S) -> io::Result<()>
     Ok(())
 }
 
-fn status_of(fault: &NetFault) -> Status
+fn status_of(fault: &NetFault) -> ExitStatus
     ensures { result ≡ status_of_fault fault.now }
 {
     match fault {
-        NetFault::Memory => Status::MemoryRefused,
-        _ => Status::Refused,
+        NetFault::Memory => ExitStatus::MemoryRefused,
+        _ => ExitStatus::Refused,
     }
 }
 

@@ -4,7 +4,7 @@ ghost use Rattle.kpn_front.specs.Statuses.{code_of};
 
 /// The exit status of a program of this engine.
 #[derive(Clone, Copy, Debug, PartialEq, Eq)]
-pub enum Status {
+pub enum ExitStatus {
     /// 0: the run terminated, the description was accepted, or help was asked for.
     Success,
     /// 1: the arguments were refused, or out of memory for them; or no channel has the name to show.
@@ -25,21 +25,21 @@ pub enum Status {
     Lost,
 }
 
-impl Status {
+impl ExitStatus {
     /// Returns the number of the exit status, 0 to 8.
     pub fn code(self) -> u8
         ensures { result ≡ code_of self }
     {
         match self {
-            Status::Success => 0,
-            Status::WrongArguments => 1,
-            Status::Refused => 2,
-            Status::BudgetSpent => 3,
-            Status::MemoryRefused => 4,
-            Status::Deadlocked => 5,
-            Status::AtCeiling => 6,
-            Status::WriteFailed => 7,
-            Status::Lost => 8,
+            ExitStatus::Success => 0,
+            ExitStatus::WrongArguments => 1,
+            ExitStatus::Refused => 2,
+            ExitStatus::BudgetSpent => 3,
+            ExitStatus::MemoryRefused => 4,
+            ExitStatus::Deadlocked => 5,
+            ExitStatus::AtCeiling => 6,
+            ExitStatus::WriteFailed => 7,
+            ExitStatus::Lost => 8,
         }
     }
 }

@@ -6,7 +6,7 @@ use crate::drawing::{COUNTER, COUNTER_LINES, drawn};
 use crate::samples::COPY;
 use hox_args::StreamChoice;
 use hox_execute::{
-    FileSystem, Formats, Outcome, Pair, Role, Stop, StreamStop, count_standard, execute,
+    Executed, FileSystem, Formats, Pair, Role, Stop, StreamStop, count_standard, execute,
     is_named_twice, pairs_of, stream,
 };
 use hox_network::AllKinds;
@@ -139,12 +139,12 @@ fn push_bytes(trace: &mut String, bytes: &[u8]) -> Result<(), AllocError> {
 }
 
 /// Returns the exit status, or 9 if a stream is to run, and 10 if kinds are to be listed.
-fn status_of(outcome: &Result<Outcome<'_>, Stop<'_>>) -> u8 {
+fn status_of(outcome: &Result<Executed<'_>, Stop<'_>>) -> u8 {
     match outcome {
-        Ok(Outcome::Exits(status)) => status.code(),
-        Ok(Outcome::Ran(ran)) => ran.status.code(),
-        Ok(Outcome::Streams(_)) => 9,
-        Ok(Outcome::Lists(_)) => 10,
+        Ok(Executed::Exits(status)) => status.code(),
+        Ok(Executed::Ran(ran)) => ran.status.code(),
+        Ok(Executed::Streams(_)) => 9,
+        Ok(Executed::Lists(_)) => 10,
         Err(stop) => stop.status().code(),
     }
 }

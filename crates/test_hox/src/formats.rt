@@ -1,8 +1,8 @@
 //! Names of file formats, and what files contain before the tokens.
 use crate::checks::same;
 use hox_format::{
-    BeginFault, Body, Csv, Format, FormatFault, Head, HeadFault, Raw, Shared, Wav, Which,
-    append_head, append_tail, begin, body_in, body_of, decimals_of, format_of, layout_of,
+    BeginFault, Csv, Format, FormatFault, Head, HeadFault, Raw, Records, Shared, Wav, Which,
+    append_head, append_tail, begin, decimals_of, format_of, layout_of, records_in, records_of,
     shared_by,
 };
 use kpn_front::Source;
@@ -224,15 +224,15 @@ fn found<R: AllocGlobal + Abort>(
     text: &str,
     channel: (usize, usize),
     file: (&[u8], bool),
-) -> Result<Option<Body>, HeadFault> {
+) -> Result<Option<Records>, HeadFault> {
     let format = format_of(text).expect(rt, "a format");
     let (place, count) = channel;
     let (bytes, is_last) = file;
-    body_in(rt.alloc(), &format, place, count, bytes, is_last).expect(rt, "no memory")
+    records_in(rt.alloc(), &format, place, count, bytes, is_last).expect(rt, "no memory")
 }
 
-fn stereo(before: u16, after: u16) -> Body {
-    Body {
+fn stereo(before: u16, after: u16) -> Records {
+    Records {
         layout: Layout::Frames(Frame {
             before,
             sample: wav_sample(Width::Two),
@@ -276,12 +276,12 @@ fn bodies_of_wav_files(rt: HostRuntime) {
     let short = found(&rt, "wav", (0, 2), (&STEREO[..43], true));
     same(&rt, "short", short, Err(HeadFault::Wav(WavFault::CutShort)));
     let samples: &[u8] = b"\x01\x00\xff\xffd\x00\x9c\xff";
-    same(&rt, "samples", body_of(STEREO, &left), samples);
-    same(&rt, "past", body_of(&STEREO[..43], &left), &[]);
+    same(&rt, "samples", records_of(STEREO, &left), samples);
+    same(&rt, "past", records_of(&STEREO[..43], &left), &[]);
 }
 
-fn rows(separator: Separator, place: usize, start: usize) -> Result<Option<Body>, HeadFault> {
-    Ok(Some(Body {
+fn rows(separator: Separator, place: usize, start: usize) -> Result<Option<Records>, HeadFault> {
+    Ok(Some(Records {
         layout: Layout::Fields(Column {
             place,
             separator,
@@ -335,13 +335,13 @@ fn bodies_of_csv_files(rt: HostRuntime) {
     same(&rt, "long", found_long, Err(HeadFault::TooLong));
 }
 
-fn frames(before: u16, after: u16) -> Result<Option<Body>, HeadFault> {
+fn frames(before: u16, after: u16) -> Result<Option<Records>, HeadFault> {
     let frame = Frame {
         before,
         sample: S16,
         after,
     };
-    Ok(Some(Body {
+    Ok(Some(Records {
         layout: Layout::Frames(frame),
         start: 0,
         size: None,
@@ -379,7 +379,7 @@ fn bodies_of_samples(rt: HostRuntime) {
     ] {
         same(&rt, text, found(&rt, text, channel, none), due);
     }
-    let lines = Ok(Some(Body {
+    let lines = Ok(Some(Records {
         layout: Layout::Lines(CENTS),
         start: 0,
         size: None,

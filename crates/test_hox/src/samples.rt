@@ -7,7 +7,7 @@ use hox_network::{
     AllKinds, Fault, FileFault, KINDS, PresetFault, Request, StreamAs, TokenFile, channel_names,
     load_by_ports, prepare, read_whole, sketch_by_ports,
 };
-use hox_run::{Notes, Progress, Silent, SoFar, Told, Wanted, execute, serve};
+use hox_run::{Notes, ProgressReceiver, Silent, SoFar, Told, WantedStreams, execute, serve};
 use kpn_message::messages_of_sketch;
 use kpn_net::{Listed, Net, Sort, Text, Token, TokenSketch};
 use kpn_tokens::{Decimals, Layout, RecordFault};
@@ -124,7 +124,7 @@ fn asked<R: Abort>(rt: &R, alloc: Global, tokens: &str, workers: usize) -> Reque
     request
 }
 
-fn told_of<R: AllocGlobal + Wait + Clock + Threads + Abort + Sync, P: Progress>(
+fn told_of<R: AllocGlobal + Wait + Clock + Threads + Abort + Sync, P: ProgressReceiver>(
     rt: &R,
     text: &str,
     request: &Request,
@@ -228,7 +228,7 @@ struct Listener {
     entries: AtomicU64,
 }
 
-impl Progress for Listener {
+impl ProgressReceiver for Listener {
     fn is_wanted(&self) -> bool {
         true
     }
@@ -345,7 +345,7 @@ fn a_network_is_run_by_two(rt: HostRuntime) {
     };
     let names = channel_names(rt.alloc(), &net).expect(&rt, "no memory");
     are_x_and_y(&rt, "channels", names.as_slice());
-    let wanted = Wanted {
+    let wanted = WantedStreams {
         show: &[],
         outputs: &[],
     };

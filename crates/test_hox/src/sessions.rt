@@ -1,8 +1,8 @@
 //! Flows for callers in other languages: each public call, against values that were computed without the engine.
 use crate::checks::same;
 use hox_handle::{
-    Answer, Moved, OpenFault, Session, check, copy_out, end_number, message_of_fault, pause_number,
-    run,
+    ReturnCode, Session, SessionFault, Transferred, check, copy_out, end_number, message_of_fault,
+    pause_number, run,
 };
 use kpn_flow::Pause;
 use kpn_model::End;
@@ -39,8 +39,8 @@ fn sums<R: Abort>(rt: &R, alloc: Global) -> Session {
         .expect(rt, "no session")
 }
 
-fn moved(count: usize, answer: Answer) -> Moved {
-    Moved { count, answer }
+fn moved(count: usize, answer: ReturnCode) -> Transferred {
+    Transferred { count, answer }
 }
 
 /// A text of names or a description that no session opens, the number of the answer, and the message.
@@ -72,7 +72,7 @@ fn sums_come_out(rt: HostRuntime) {
         &rt,
         "feed",
         session.feed(0, &[5, 7, 11, 13, 17]),
-        moved(4, Answer::Done),
+        moved(4, ReturnCode::Done),
     );
     same(&rt, "input fill", session.input_fill(0), Some((4, 4)));
     same(&rt, "may feed", session.may_feed(0), Some(false));
@@ -84,7 +84,7 @@ fn sums_come_out(rt: HostRuntime) {
         &rt,
         "drain",
         session.drain(0, &mut words),
-        moved(4, Answer::Done),
+        moved(4, ReturnCode::Done),
     );
     same(&rt, "words", words, [5, 12, 18, 24, 99, 99]);
     same(&rt, "entries", session.entries(), (37, 0));
@@ -107,14 +107,19 @@ fn a_kind_may_be_a_formula(rt: HostRuntime) {
     let mut session = Session::open(rt.alloc(), DOUBLE, b"x", b"y")
         .ok()
         .expect(&rt, "no session");
-    same(&rt, "feed", session.feed(0, &[21]), moved(1, Answer::Done));
+    same(
+        &rt,
+        "feed",
+        session.feed(0, &[21]),
+        moved(1, ReturnCode::Done),
+    );
     same(&rt, "advance", session.advance(1000), Pause::Starved);
     let mut words = [99; 2];
     same(
         &rt,
         "drain",
         session.drain(0, &mut words),
-        moved(1, Answer::Done),
+        moved(1, ReturnCode::Done),
     );
     same(&rt, "words", words, [42, 99]);
 }
@@ -126,16 +131,21 @@ fn flags_are_0_and_1(rt: HostRuntime) {
         &rt,
         "feed",
         session.feed(1, &[1, 2, 0]),
-        moved(1, Answer::NoFlag),
+        moved(1, ReturnCode::NoFlag),
     );
-    same(&rt, "feed", session.feed(1, &[0]), moved(1, Answer::Done));
+    same(
+        &rt,
+        "feed",
+        session.feed(1, &[0]),
+        moved(1, ReturnCode::Done),
+    );
     same(&rt, "advance", session.advance(1000), Pause::Starved);
     let mut words = [99; 2];
     same(
         &rt,
         "drain",
         session.drain(1, &mut words),
-        moved(2, Answer::Done),
+        moved(2, ReturnCode::Done),
     );
     same(&rt, "words", words, [0, 1]);
 }
@@ -157,9 +167,14 @@ fn an_input_ends(rt: HostRuntime) {
         session.waits_for_output(0),
         Some(false),
     );
-    same(&rt, "end input", session.end_input(0), Answer::Done);
-    same(&rt, "end input", session.end_input(1), Answer::Done);
-    same(&rt, "feed", session.feed(0, &[1]), moved(0, Answer::Ended));
+    same(&rt, "end input", session.end_input(0), ReturnCode::Done);
+    same(&rt, "end input", session.end_input(1), ReturnCode::Done);
+    same(
+        &rt,
+        "feed",
+        session.feed(0, &[1]),
+        moved(0, ReturnCode::Ended),
+    );
     same(&rt, "stand", session.stand(), Pause::Over(End::Deadlock));
     same(
         &rt,
@@ -172,7 +187,7 @@ fn an_input_ends(rt: HostRuntime) {
 #[test]
 fn a_full_output_blocks(rt: HostRuntime) {
     let mut session = sums(&rt, rt.alloc());
-    same(&rt, "end input", session.end_input(1), Answer::Done);
+    same(&rt, "end input", session.end_input(1), ReturnCode::Done);
     for _ in 0..4 {
         let _ = session.feed(0, &[1, 1, 1, 1]);
         let _ = session.advance(1000);
@@ -199,15 +214,20 @@ fn there_is_no_such_channel(rt: HostRuntime) {
         &rt,
         "feed",
         session.feed(2, &[1]),
-        moved(0, Answer::NoChannel),
+        moved(0, ReturnCode::NoChannel),
     );
     same(
         &rt,
         "drain",
         session.drain(usize::MAX, &mut [0]),
-        moved(0, Answer::NoChannel),
+        moved(0, ReturnCode::NoChannel),
     );
-    same(&rt, "end input", session.end_input(2), Answer::NoChannel);
+    same(
+        &rt,
+        "end input",
+        session.end_input(2),
+        ReturnCode::NoChannel,
+    );
     same(&rt, "may feed", session.may_feed(2), None);
     same(&rt, "waits for input", session.waits_for_input(2), None);
     same(&rt, "waits for output", session.waits_for_output(2), None);
@@ -344,18 +364,18 @@ fn texts_are_cut_off(rt: HostRuntime) {
 #[test]
 fn answers_have_numbers(rt: HostRuntime) {
     let answers = [
-        (Answer::Done, 0),
-        (Answer::Description(NetFault::NotToml), 1),
-        (Answer::Description(NetFault::Step), 17),
-        (Answer::Closed, 32),
-        (Answer::Open, 33),
-        (Answer::NoChannel, 34),
-        (Answer::Ended, 35),
-        (Answer::NoFlag, 36),
-        (OpenFault::NoText.answer(), 37),
-        (Answer::NoInput, 38),
-        (Answer::NoOutput, 39),
-        (Answer::Twice, 40),
+        (ReturnCode::Done, 0),
+        (ReturnCode::Description(NetFault::NotToml), 1),
+        (ReturnCode::Description(NetFault::Step), 17),
+        (ReturnCode::Closed, 32),
+        (ReturnCode::Open, 33),
+        (ReturnCode::NoChannel, 34),
+        (ReturnCode::Ended, 35),
+        (ReturnCode::NoFlag, 36),
+        (SessionFault::NoText.answer(), 37),
+        (ReturnCode::NoInput, 38),
+        (ReturnCode::NoOutput, 39),
+        (ReturnCode::Twice, 40),
     ];
     for (answer, number) in answers {
         same(&rt, "number", answer.number(), number);

@@ -1,8 +1,8 @@
 //! Streams between bytes in memory.
 use crate::checks::same;
 use hox_stream::{
-    Exits, Fill, Finish, LaidEnds, LaidOut, Moved, NameFault, NoOnlooker, Onlooker, OpenStream,
-    Outlet, Refusal, Served, StreamFault, open_stream, serve,
+    EndedStream, Exits, Fill, LaidEnds, LaidOut, Moved, NameFault, NoOnlooker, Onlooker,
+    OpenStream, Outlet, Refusal, StreamFault, StreamFinish, open_stream, serve,
 };
 use kpn_body::Standard;
 use kpn_compute::Both;
@@ -86,7 +86,7 @@ fn served_of<'a, R: Abort>(
     bytes: &'a [u8],
     from: Layout,
     to: Layout,
-) -> Served<Kinds, &'a [u8], Vec<u8>> {
+) -> EndedStream<Kinds, &'a [u8], Vec<u8>> {
     let sources = sources_of(rt, alloc, bytes, from);
     let sinks = sinks_of(rt, alloc, to);
     let (fed, drained) = (name(rt, alloc, "x"), name(rt, alloc, "y"));
@@ -101,7 +101,7 @@ fn served_of<'a, R: Abort>(
 }
 
 /// How many records were read and how many tokens were written, and how many of these were clipped.
-fn counted<R: Abort>(rt: &R, served: &Served<Kinds, &[u8], Vec<u8>>) -> (u64, u64, u64) {
+fn counted<R: Abort>(rt: &R, served: &EndedStream<Kinds, &[u8], Vec<u8>>) -> (u64, u64, u64) {
     let inlet = served.inlets.as_slice().first().expect(rt, "no source");
     let outlet = served.outlets.as_slice().first().expect(rt, "no sink");
     (inlet.records(), outlet.tokens(), outlet.clipped())
@@ -164,7 +164,7 @@ fn wrote<R: Abort>(rt: &R, outlets: &mut Vec<Outlet<Vec<u8>>>, due: &[u8]) {
 
 /// Streams a text through the sums, compares what was written and why it ended, and returns whether nothing
 /// is left to do.
-fn streamed<R: Abort>(rt: &R, alloc: Global, text: &str, written: &str, due: Finish) -> bool {
+fn streamed<R: Abort>(rt: &R, alloc: Global, text: &str, written: &str, due: StreamFinish) -> bool {
     let mut served = served_of(rt, alloc, text.as_bytes(), Layout::PLAIN, Layout::PLAIN);
     same(rt, "finish", served.finish, due);
     wrote(rt, &mut served.outlets, written.as_bytes());
@@ -192,7 +192,7 @@ fn sampled<R: Abort>(
     to: Layout,
     written: &[u8],
     counts: (u64, u64, u64),
-    due: Finish,
+    due: StreamFinish,
 ) {
     let from = samples(Width::Two, Endian::Little, false);
     let mut served = served_of(rt, alloc, bytes, from, to);
@@ -208,7 +208,7 @@ const SAMPLES: &[u8] = &[3, 0, 0xFF, 0xFF, 0x2C, 1];
 #[test]
 fn sums_come_of_samples(rt: HostRuntime) {
     let alloc = rt.alloc();
-    let over = Finish::Over(End::Deadlock);
+    let over = StreamFinish::Over(End::Deadlock);
     let big = samples(Width::Two, Endian::Big, false);
     sampled(
         &rt,
@@ -229,9 +229,9 @@ fn sums_come_of_samples(rt: HostRuntime) {
         narrow,
         &[3, 2],
         (3, 2, 0),
-        Finish::Misfit(0),
+        StreamFinish::Misfit(0),
     );
-    let short = Finish::Refused(0, Refusal::Fault(RecordFault::CutShort));
+    let short = StreamFinish::Refused(0, Refusal::Fault(RecordFault::CutShort));
     sampled(
         &rt,
         alloc,
@@ -244,7 +244,7 @@ fn sums_come_of_samples(rt: HostRuntime) {
     same(
         &rt,
         "status",
-        Finish::Misfit(0).status(Verdict::RanDry).code(),
+        StreamFinish::Misfit(0).status(Verdict::RanDry).code(),
         2,
     );
 }
@@ -262,7 +262,7 @@ fn sums_come_of_a_column(rt: HostRuntime) {
     });
     let bytes = b"a;0.5\n\"b;c\";-1.25;7\nd;\n";
     let mut served = served_of(&rt, alloc, bytes, from, Layout::PLAIN);
-    let empty = Finish::Refused(0, Refusal::Fault(RecordFault::EmptyField));
+    let empty = StreamFinish::Refused(0, Refusal::Fault(RecordFault::EmptyField));
     same(&rt, "finish", served.finish, empty);
     wrote(&rt, &mut served.outlets, b"50\n-75\n");
     drop(served);
@@ -277,7 +277,12 @@ fn a_long_line_is_read_on(rt: HostRuntime) {
     }
     text.extend_from_slice(b"\n2\n").expect(&rt, "no memory");
     let mut served = served_of(&rt, alloc, text.as_slice(), Layout::PLAIN, Layout::PLAIN);
-    same(&rt, "finish", served.finish, Finish::Over(End::Deadlock));
+    same(
+        &rt,
+        "finish",
+        served.finish,
+        StreamFinish::Over(End::Deadlock),
+    );
     wrote(&rt, &mut served.outlets, b"2\n");
     drop(served);
 }
@@ -286,7 +291,13 @@ fn a_long_line_is_read_on(rt: HostRuntime) {
 fn sums_come_of_lines(rt: HostRuntime) {
     let alloc = rt.alloc();
     let text = "3\n# none\n0x10, a note\n\n7";
-    let is_exhausted = streamed(&rt, alloc, text, "3\n19\n23\n", Finish::Over(End::Deadlock));
+    let is_exhausted = streamed(
+        &rt,
+        alloc,
+        text,
+        "3\n19\n23\n",
+        StreamFinish::Over(End::Deadlock),
+    );
     same(&rt, "exhausted", is_exhausted, true);
 }
 
@@ -312,7 +323,7 @@ fn what_is_refused_is_held(rt: HostRuntime) {
 #[test]
 fn a_line_is_refused(rt: HostRuntime) {
     let fault = Refusal::Fault(RecordFault::NotAWord);
-    let due = Finish::Refused(0, fault);
+    let due = StreamFinish::Refused(0, fault);
     streamed(&rt, rt.alloc(), "3\n4\nx\n5\n", "3\n7\n", due);
     same(&rt, "status", due.status(Verdict::RanDry).code(), 2);
 }

@@ -1,8 +1,8 @@
 //! Streams into files of several channels.
 use crate::checks::same;
 use hox_stream::{
-    Exits, Finish, LaidEnds, LaidOut, LaidTable, MOST_AHEAD, NoOnlooker, Served, TableOutlet,
-    open_stream, serve,
+    EndedStream, Exits, LaidEnds, LaidOut, LaidTable, MOST_AHEAD, NoOnlooker, StreamFinish,
+    TableOutlet, open_stream, serve,
 };
 use kpn_body::Standard;
 use kpn_compute::Both;
@@ -55,7 +55,7 @@ fn paired<'a, R: Abort>(
     drained: &[Text],
     sinks: usize,
     table: Table,
-) -> Served<Kinds, &'a [u8], Vec<u8>> {
+) -> EndedStream<Kinds, &'a [u8], Vec<u8>> {
     let mut sources = Vec::new(alloc);
     let source = LaidOut {
         stream: bytes,
@@ -105,7 +105,12 @@ fn rows_hold_a_word_of_each_channel(rt: HostRuntime) {
     let drained = [name(&rt, alloc, "y"), name(&rt, alloc, "z")];
     let comma = Table::Rows(Separator::Comma);
     let mut served = paired(&rt, alloc, b"3\n4\n5\n", &drained, 0, comma);
-    same(&rt, "finish", served.finish, Finish::Over(End::Deadlock));
+    same(
+        &rt,
+        "finish",
+        served.finish,
+        StreamFinish::Over(End::Deadlock),
+    );
     let table = served.tables.as_slice().first().expect(&rt, "no table");
     same(&rt, "width", table.width(), 2);
     same(&rt, "waiting", table.waiting(), 0);
@@ -206,7 +211,7 @@ fn a_word_does_not_fit_a_column(rt: HostRuntime) {
         0,
         samples(Width::One, false),
     );
-    same(&rt, "finish", served.finish, Finish::Misfit(0));
+    same(&rt, "finish", served.finish, StreamFinish::Misfit(0));
     let text = written(&rt, &mut served.tables);
     same(&rt, "before it", text.as_slice(), [3, 9, 0, 3].as_slice());
     drop(served);
@@ -231,7 +236,7 @@ channel = [
 "#;
 
 /// Streams words through `APART`, and returns how that ends and the bytes of the table.
-fn apart<R: Abort>(rt: &R, alloc: Global, words: usize) -> (Finish, usize) {
+fn apart<R: Abort>(rt: &R, alloc: Global, words: usize) -> (StreamFinish, usize) {
     let mut text = Vec::new(alloc);
     for _ in 0..words {
         text.extend_from_slice(b"7\n").expect(rt, "no memory");
@@ -269,8 +274,8 @@ fn apart<R: Abort>(rt: &R, alloc: Global, words: usize) -> (Finish, usize) {
 #[test]
 fn a_channel_may_be_ahead(rt: HostRuntime) {
     let few = apart(&rt, rt.alloc(), 3);
-    same(&rt, "few", few, (Finish::Idle, 13));
+    same(&rt, "few", few, (StreamFinish::Idle, 13));
     same(&rt, "most", MOST_AHEAD, 1000000);
-    let apart = Finish::Apart(0);
+    let apart = StreamFinish::Apart(0);
     same(&rt, "status", apart.status(Verdict::RanDry).code(), 2);
 }

@@ -2,7 +2,7 @@
 use crate::checks::same;
 use crate::dry::SUM;
 use crate::flow::streams::{name, sinks_of, sources_of};
-use hox_stream::{Finish, LaidEnds, NoOnlooker, open_stream, serve};
+use hox_stream::{LaidEnds, NoOnlooker, StreamFinish, open_stream, serve};
 use kpn_body::Standard;
 use kpn_flow_verdict::judge;
 use kpn_model::{End, Verdict};
@@ -43,7 +43,12 @@ fn compare_end<R: Abort>(rt: &R, alloc: Global, text: &str, count: u64, due: (Ve
         tables: Vec::new(alloc),
     };
     let served = serve(alloc, stream, ends, &NoOnlooker).expect(rt, "no memory");
-    same(rt, "finish", served.finish, Finish::Over(End::Ceiling));
+    same(
+        rt,
+        "finish",
+        served.finish,
+        StreamFinish::Over(End::Ceiling),
+    );
     let outlet = served.outlets.as_slice().first().expect(rt, "no sink");
     same(rt, "tokens", outlet.tokens(), count);
     let judged = judge(alloc, &served.flow, End::Ceiling).expect(rt, "no memory");

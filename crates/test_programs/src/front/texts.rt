@@ -4,7 +4,7 @@ ghost use Rattle.std.specs.Str.{bytes_eq};
 
 use crate::checks::same;
 use kpn_execute::{load, say_checked, say_refused};
-use kpn_front::{Fallible, Refused, Source, Status, load_or_refuse, read_text, say_lost};
+use kpn_front::{ExitStatus, Fallible, Refused, Source, load_or_refuse, read_text, say_lost};
 use kpn_net::{Act, Answer, Card, Kinds, Local, Net, NetFault, Signature, Sort, Token};
 use std::alloc::{AllocError, Global};
 use std::fmt::Write as _;
@@ -458,15 +458,15 @@ fn meets_failures_in_mid_stream(rt: HostRuntime) {
 #[test]
 fn statuses_have_numbers(rt: HostRuntime) {
     let codes = [
-        Status::Success.code(),
-        Status::WrongArguments.code(),
-        Status::Refused.code(),
-        Status::BudgetSpent.code(),
-        Status::MemoryRefused.code(),
-        Status::Deadlocked.code(),
-        Status::AtCeiling.code(),
-        Status::WriteFailed.code(),
-        Status::Lost.code(),
+        ExitStatus::Success.code(),
+        ExitStatus::WrongArguments.code(),
+        ExitStatus::Refused.code(),
+        ExitStatus::BudgetSpent.code(),
+        ExitStatus::MemoryRefused.code(),
+        ExitStatus::Deadlocked.code(),
+        ExitStatus::AtCeiling.code(),
+        ExitStatus::WriteFailed.code(),
+        ExitStatus::Lost.code(),
     ];
     same(&rt, "codes", codes, [0, 1, 2, 3, 4, 5, 6, 7, 8]);
 }

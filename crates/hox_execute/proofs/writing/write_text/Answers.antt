@@ -1,6 +1,6 @@
 -- One text is written, or is not.
 use Rattle.std.proofs.Common.{[], ◌∷◌, refl, ◌∙◌}
-use Rattle.kpn_front.specs.declared.status.Status.TheVariants.{Success}
+use Rattle.kpn_front.specs.declared.status.ExitStatus.TheVariants.{Success}
 use Rattle.hox_files.specs.Files.{standard, wrote}
 use Rattle.hox_execute.proofs.Tried.{tries_as, writes}
 use Rattle.hox_execute.proofs.writing.write_text.Goals as goal

@@ -1,6 +1,6 @@
 use Rattle.std.proofs.Common.{◌≡◌, ◌≤◌, ℕ, List, map, length, sym, subst, arith}
 use Rattle.kpn_formula.specs.declared.instruction.Instruction.{Instruction}
-use Rattle.hox_formula.specs.declared.head.Head.{Head}
+use Rattle.hox_formula.specs.declared.left_side.LeftSide.{LeftSide}
 use Rattle.hox_formula.specs.Parsing.{naming}
 use Rattle.hox_formula.specs.Formulas.{first_start}
 use Rattle.hox_formula.specs.Compiling.{Opens}
@@ -16,7 +16,7 @@ returns-in-Ok c =
     let of_states : Opens code 0 (map (first_start c.deref-3.result.now) names.states) =
     subst (λ (states : List ℕ). Opens code 0 (map (first_start c.deref-3.result.now) states)) c.deref-2.ensures.value c.in_ok-opening.ensures in
     let of_heads : Opens code 0 (map (first_start lines.heads.items) names.states) =
-    subst (λ (heads : List Head). Opens code 0 (map (first_start heads) names.states)) c.deref-3.ensures.value of_states in
+    subst (λ (heads : List LeftSide). Opens code 0 (map (first_start heads) names.states)) c.deref-3.ensures.value of_states in
     let opens : Opens c.deref-6.result.now 0 (map (first_start lines.heads.items) names.states) =
     subst (λ (all : List Instruction). Opens all 0 (map (first_start lines.heads.items) names.states)) (sym c.deref-6.ensures.value) of_heads in
     let few : length names.states ≤ 6 = omega (arith, c.in_ok-names.names.few) in (

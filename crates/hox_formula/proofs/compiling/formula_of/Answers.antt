@@ -1,6 +1,6 @@
 use Rattle.std.proofs.Common.{◌≡◌, ◌∙◌, List, map, refl, sym, ap, subst}
 use Rattle.hox_formula.specs.declared.symbol.Symbol.{Symbol}
-use Rattle.hox_formula.specs.declared.head.Head.{Head}
+use Rattle.hox_formula.specs.declared.left_side.LeftSide.{LeftSide}
 use Rattle.hox_formula.specs.Parsing.{naming}
 use Rattle.hox_formula.specs.Formulas.{target_of}
 use Rattle.hox_formula.proofs.Compiled.{named_by}
@@ -10,6 +10,6 @@ pub returns : goal.returns
 returns c =
     let same : naming c.in_ok-guessed.guessed ≡ naming c.in_ok-names.names = c.are_same.ensures c.if-not-are_same.false in
     let targets_are : c.deref-3.result.now ≡ map target_of c.in_ok-lines.lines.heads.items =
-    c.deref-3.ensures.value ∙ c.in_ok-targets.ensures ∙ ap (λ (hs : List Head). map target_of hs) c.deref-2.ensures.value in
+    c.deref-3.ensures.value ∙ c.in_ok-targets.ensures ∙ ap (λ (hs : List LeftSide). map target_of hs) c.deref-2.ensures.value in
     let read = c.in_ok-lines.ensures in
     (read, named_by (naming c.in_ok-guessed.guessed) (naming c.in_ok-names.names) c.args.symbols.now c.deref-3.result.now c.in_ok-lines.lines.heads.items read.lines same c.in_ok-names.ensures targets_are read.heads)

@@ -1,6 +1,6 @@
 -- The names are those of the texts.
 use Rattle.std.proofs.Common.{inl, inr}
-use Rattle.hox_handle.proofs.Opened.{open_fault, unnamed}
+use Rattle.hox_handle.proofs.Opened.{session_fault, unnamed}
 use Rattle.hox_handle.proofs.session.Session.open.Goals as goal
 
 pub returns-in-Err-clause-fault : goal.returns-in-Err-clause-fault
@@ -20,5 +20,5 @@ returns-in-Ok-open_between-clause-ok c = record {
 
 pub returns-clause-fault : goal.returns-clause-fault
 returns-clause-fault c =
-    open_fault c.args.text.now c.args.inputs.now c.args.outputs.now c.in-Ok.fed.items c.in-Ok-names_in.drained.items c.in-Err-open_between.fault c.in-Ok.ensures.ok c.in-Ok-names_in.ensures.ok
+    session_fault c.args.text.now c.args.inputs.now c.args.outputs.now c.in-Ok.fed.items c.in-Ok-names_in.drained.items c.in-Err-open_between.fault c.in-Ok.ensures.ok c.in-Ok-names_in.ensures.ok
     (rw (c.as_slice.ensures.value, c.as_slice-2.ensures.value) at c.in-Err-open_between.ensures.fault)

@@ -3,7 +3,7 @@ ghost use Rattle.std.specs.Prelude.{◌≡◌, ◌<◌, ◌≤◌, ◌*◌, ◌^
 ghost use Rattle.std.specs.List.{position_or_len};
 ghost use Rattle.kpn_tokens.specs.Rows.{is_line_feed};
 ghost use Rattle.kpn_tokens.specs.Samples.{bytes_in};
-ghost use Rattle.hox_format.specs.Bodies.{IsBodyResult, IsChannelResult, IsTold, IsWavBody, IsWithin, body_bytes, channel_frame, channel_of, csv_body, name_fault, named_body, names_row, placed_body, raw_body, rows_from, to_end};
+ghost use Rattle.hox_format.specs.Records.{AreWavRecords, IsChannelResult, IsRecordsResult, IsTold, IsWithin, channel_frame, channel_of, csv_records, name_fault, named_records, names_row, placed_records, raw_records, records_bytes, rows_from, to_end};
 ghost use Rattle.hox_format.specs.Forms.{form, table_of};
 
 use crate::formats::{Csv, Format, Raw, Wav, Which};
@@ -16,7 +16,7 @@ use std::alloc::{AllocError, Global};
 /// One channel's records in a file: their layout, where they start, their size in bytes if stated (else they
 /// extend to the end), and the samples per second if stated.
 #[derive(Clone, Copy, Debug, PartialEq, Eq)]
-pub struct Body {
+pub struct Records {
     pub layout: Layout,
     pub start: usize,
     pub size: Option<u64>,
@@ -51,30 +51,30 @@ pub enum HeadFault {
 /// column chosen by name implies a row of names.
 ///
 /// Errors: out of memory.
-pub fn body_in(
+pub fn records_in(
     alloc: Global,
     format: &Format<'_>,
     place: usize,
     count: usize,
     bytes: &[u8],
     is_last: bool,
-) -> Result<Result<Option<Body>, HeadFault>, AllocError>
-    ensures body { IfOk result (IsBodyResult (form format.now) place count bytes.now is_last) }
+) -> Result<Result<Option<Records>, HeadFault>, AllocError>
+    ensures records { IfOk result (IsRecordsResult (form format.now) place count bytes.now is_last) }
     ensures within { IfOk result (IsWithin bytes.now) }
     ensures told { is_last ≡ true → IfOk result IsTold }
 {
     match format {
         Format::Text(decimals) => Ok(Ok(Some(to_end(Layout::Lines(*decimals))))),
-        Format::Csv(csv) => csv_body(alloc, csv, place, bytes, is_last),
-        Format::Wav(wav) => Ok(wav_body(wav, place, count, bytes, is_last)),
-        Format::Raw(raw) => Ok(raw_body(raw, place, count)),
+        Format::Csv(csv) => csv_records(alloc, csv, place, bytes, is_last),
+        Format::Wav(wav) => Ok(wav_records(wav, place, count, bytes, is_last)),
+        Format::Raw(raw) => Ok(raw_records(raw, place, count)),
     }
 }
 
-fn to_end(layout: Layout) -> Body
+fn to_end(layout: Layout) -> Records
     ensures { result ≡ to_end layout }
 {
-    Body {
+    Records {
         layout,
         start: 0,
         size: None,
@@ -82,29 +82,29 @@ fn to_end(layout: Layout) -> Body
     }
 }
 
-fn csv_body(
+fn csv_records(
     alloc: Global,
     csv: &Csv<'_>,
     place: usize,
     bytes: &[u8],
     is_last: bool,
-) -> Result<Result<Option<Body>, HeadFault>, AllocError>
-    ensures { IfOk result (λ body. body ≡ csv_body (table_of csv.now) place bytes.now is_last) }
+) -> Result<Result<Option<Records>, HeadFault>, AllocError>
+    ensures { IfOk result (λ records. records ≡ csv_records (table_of csv.now) place bytes.now is_last) }
 {
     match csv.column {
-        Some(Which::Name(name)) => named_body(alloc, csv, name, bytes, is_last),
-        Some(Which::Place(chosen)) => Ok(placed_body(csv, chosen, bytes, is_last)),
-        None => Ok(placed_body(csv, place, bytes, is_last)),
+        Some(Which::Name(name)) => named_records(alloc, csv, name, bytes, is_last),
+        Some(Which::Place(chosen)) => Ok(placed_records(csv, chosen, bytes, is_last)),
+        None => Ok(placed_records(csv, place, bytes, is_last)),
     }
 }
 
-fn placed_body(
+fn placed_records(
     csv: &Csv<'_>,
     place: usize,
     bytes: &[u8],
     is_last: bool,
-) -> Result<Option<Body>, HeadFault>
-    ensures { result ≡ placed_body (table_of csv.now) place bytes.now is_last }
+) -> Result<Option<Records>, HeadFault>
+    ensures { result ≡ placed_records (table_of csv.now) place bytes.now is_last }
 {
     if !csv.has_header {
         return Ok(Some(rows_from(csv, place, 0)));
@@ -116,14 +116,14 @@ fn placed_body(
     }
 }
 
-fn named_body(
+fn named_records(
     alloc: Global,
     csv: &Csv<'_>,
     name: &str,
     bytes: &[u8],
     is_last: bool,
-) -> Result<Result<Option<Body>, HeadFault>, AllocError>
-    ensures { IfOk result (λ body. body ≡ named_body (table_of csv.now) name.now bytes.now is_last) }
+) -> Result<Result<Option<Records>, HeadFault>, AllocError>
+    ensures { IfOk result (λ records. records ≡ named_records (table_of csv.now) name.now bytes.now is_last) }
 {
     let row = match names_row(bytes, is_last) {
         Ok(Some(row)) => row,
@@ -136,7 +136,7 @@ fn named_body(
     }
 }
 
-fn rows_from(csv: &Csv<'_>, place: usize, start: usize) -> Body
+fn rows_from(csv: &Csv<'_>, place: usize, start: usize) -> Records
     ensures { result ≡ rows_from (table_of csv.now) place start }
 {
     let column = Column {
@@ -144,7 +144,7 @@ fn rows_from(csv: &Csv<'_>, place: usize, start: usize) -> Body
         separator: csv.separator,
         decimals: csv.decimals,
     };
-    Body {
+    Records {
         start,
         ..to_end(Layout::Fields(column))
     }
@@ -201,18 +201,18 @@ fn line_feed_in(bytes: &[u8]) -> Option<usize>
     bytes.iter().position(|b| *b == b'\n')
 }
 
-fn wav_body(
+fn wav_records(
     wav: &Wav,
     place: usize,
     count: usize,
     bytes: &[u8],
     is_last: bool,
-) -> Result<Option<Body>, HeadFault>
-    ensures { IsWavBody wav.now place count bytes.now is_last result }
+) -> Result<Option<Records>, HeadFault>
+    ensures { AreWavRecords wav.now place count bytes.now is_last result }
 {
     match wav_head(bytes, is_last) {
-        Ok(Some(head)) => match channel_body(wav, place, count, &head) {
-            Ok(body) => Ok(Some(body)),
+        Ok(Some(head)) => match channel_records(wav, place, count, &head) {
+            Ok(records) => Ok(Some(records)),
             Err(fault) => Err(fault),
         },
         Ok(None) => Ok(None),
@@ -220,7 +220,12 @@ fn wav_body(
     }
 }
 
-fn channel_body(wav: &Wav, place: usize, count: usize, head: &WavHead) -> Result<Body, HeadFault>
+fn channel_records(
+    wav: &Wav,
+    place: usize,
+    count: usize,
+    head: &WavHead,
+) -> Result<Records, HeadFault>
     ensures { IsChannelResult wav.now place count head.now result }
 {
     let channel = match channel_of(wav.channel, place, count, head.channels) {
@@ -230,7 +235,7 @@ fn channel_body(wav: &Wav, place: usize, count: usize, head: &WavHead) -> Result
     let Some(frame) = head.frame(channel) else {
         return Err(HeadFault::TooWide);
     };
-    Ok(Body {
+    Ok(Records {
         layout: Layout::Frames(frame),
         start: head.start,
         size: long(head.size),
@@ -261,8 +266,8 @@ fn channel_of(chosen: Option<u16>, place: usize, count: usize, has: u16) -> Resu
     }
 }
 
-fn raw_body(raw: &Raw, place: usize, count: usize) -> Result<Option<Body>, HeadFault>
-    ensures { result ≡ raw_body raw.now place count }
+fn raw_records(raw: &Raw, place: usize, count: usize) -> Result<Option<Records>, HeadFault>
+    ensures { result ≡ raw_records raw.now place count }
 {
     let channels = match raw.channels {
         Some(channels) => channels as usize,
@@ -299,11 +304,11 @@ fn channel_frame(sample: Sample, channels: u16, channel: u16) -> Frame
 }
 
 /// Returns the bytes of these records in a file: none if the file ends before them.
-pub fn body_of<'b>(bytes: &'b [u8], body: &Body) -> &'b [u8]
-    ensures { result.now ≡ body_bytes body.now bytes.now }
+pub fn records_of<'b>(bytes: &'b [u8], records: &Records) -> &'b [u8]
+    ensures { result.now ≡ records_bytes records.now bytes.now }
 {
-    let later = bytes_from(bytes, body.start);
-    match body.size {
+    let later = bytes_from(bytes, records.start);
+    match records.size {
         Some(size) => first_bytes(later, size),
         None => later,
     }

@@ -31,18 +31,18 @@ use Rattle.std_alloc.specs.contracts.boxed.Box.from_raw as callee
 use Rattle.std_alloc.proofs.boxed.Box.from_raw.Symbol.{name as #callee}
 use Rattle.std_alloc.proofs.boxed.Box.from_raw.Met.{met}
 use Rattle.std.proofs.raw_atomic.Walks.{proved_at}
-use Rattle.hoxburen.specs.contracts.parts.Parts as Parts
-use Rattle.hoxburen.specs.contracts.parts.Parts.into_box as f
-use Rattle.hoxburen.specs.contracts.parts.Parts.into_box.Key.{name as #self}
-use Rattle.hoxburen.proofs.parts.Parts.into_box.Statement.{statement}
-use Rattle.hoxburen.proofs.parts.Parts.into_box.Code as code
+use Rattle.hoxburen.specs.contracts.parts.BoxParts as BoxParts
+use Rattle.hoxburen.specs.contracts.parts.BoxParts.into_box as f
+use Rattle.hoxburen.specs.contracts.parts.BoxParts.into_box.Key.{name as #self}
+use Rattle.hoxburen.proofs.parts.BoxParts.into_box.Statement.{statement}
+use Rattle.hoxburen.proofs.parts.BoxParts.into_box.Code as code
 
 module _ (E : Bx) where
   abbrev En : Ended
   En = f.ended E.row E.al.row E.al.g E.al.d E.al.drops
 
   abbrev Taken : Slot 2
-  Taken = plain (λ _. Parts.the_row (R E) (P E) E.al.g)
+  Taken = plain (λ _. BoxParts.the_row (R E) (P E) E.al.g)
 
   abbrev stayed : Stays En.signature.params En.kept
   stayed = (stay_dropped Taken En.kept.0, tt)

@@ -34,11 +34,11 @@ use Rattle.std_alloc.specs.contracts.boxed.Box.into_raw_with_allocator as callee
 use Rattle.std_alloc.proofs.boxed.Box.into_raw_with_allocator.Symbol.{name as #callee}
 use Rattle.std_alloc.proofs.boxed.Box.into_raw_with_allocator.Met.{met}
 use Rattle.std.proofs.raw_atomic.Walks.{proved_at}
-use Rattle.hoxburen.specs.contracts.parts.Parts as Parts
-use Rattle.hoxburen.specs.contracts.parts.Parts.of as f
-use Rattle.hoxburen.specs.contracts.parts.Parts.of.Key.{name as #self}
-use Rattle.hoxburen.proofs.parts.Parts.of.Statement.{statement}
-use Rattle.hoxburen.proofs.parts.Parts.of.Code as code
+use Rattle.hoxburen.specs.contracts.parts.BoxParts as BoxParts
+use Rattle.hoxburen.specs.contracts.parts.BoxParts.of as f
+use Rattle.hoxburen.specs.contracts.parts.BoxParts.of.Key.{name as #self}
+use Rattle.hoxburen.proofs.parts.BoxParts.of.Statement.{statement}
+use Rattle.hoxburen.proofs.parts.BoxParts.of.Code as code
 
 module _ (E : Bx) (dx : Dict) where
   abbrev passed : Args
@@ -54,7 +54,7 @@ module _ (E : Bx) (dx : Dict) where
   stayed = (stay_dropped Boxed En.kept.0, tt)
 
   abbrev Made : RattleType
-  Made = Parts.the_row (R E) (P E) E.al.g
+  Made = BoxParts.the_row (R E) (P E) E.al.g
 
 pub of_spec : {M : Type 1} → statement M
 of_spec 𝓤 𝓛 𝓜 𝓡 wired X Z LX LZ g d dd dx allocator md glue =

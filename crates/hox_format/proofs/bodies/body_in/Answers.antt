@@ -1,5 +1,0 @@
-use Rattle.hox_format.proofs.Starts.{starts_within}
-use Rattle.hox_format.proofs.bodies.body_in.Goals as goal
-
-pub returns-in-Wav-clause-within : goal.returns-in-Wav-clause-within
-returns-in-Wav-clause-within c = starts_within c.in-Wav.wav c.args.place c.args.count c.args.bytes.now c.args.is_last c.wav_body.result c.wav_body.ensures
