@@ -4,11 +4,11 @@ use Rattle.std.specs.Prelude.{slice_index_or}
 use Rattle.std.specs.List.{fold}
 use Rattle.std.specs.Cmp.Lexicographic.{slice_cmp}
 use Rattle.std.specs.Ordering.{match_ordering}
-use Rattle.serde_json.specs.Data.{Data, Items, Members, Num, array, boolean, float, item, member, negative, no_items, no_members, null, number, object, put, string, unsigned}
+use Rattle.serde_json.specs.Data.{Data, Members, array, boolean, float, member, negative, no_members, null, number, object, put, string, unsigned}
 use Rattle.serde_json.specs.Read.{read}
 use Rattle.serde_json.specs.View.{items_of}
 use Rattle.serde_json.specs.Written.{has_float, items_have_float, members_have_float}
-use Rattle.hox_json.specs.Json.{first_text, growth_data, growths_data, has, is_cycle, lines, lines_of, members, named, names_data, plain_or, put_if, put_named, report_data, sizes_data, state_data, text_of, token_data, tokens_data, verdict_text, waits, with_history, with_places, with_rest, with_verdict, word_at, words_after}
+use Rattle.hox_json.specs.Json.{growth_data, growths_data, has, is_cycle, lines, lines_of, named, names_data, plain_or, put_if, put_named, report_data, sizes_data, state_data, text_of, token_data, tokens_data, verdict_text, waits, with_history, with_places, with_rest, with_verdict, word_at, words_after}
 
 neither : (p q : Bool) → p ≡ false → q ≡ false → (p || q) ≡ false
 neither false q h i = i

@@ -1,0 +1,10 @@
+-- Found without an answer too, after a longer search.
+use Rattle.std.proofs.Common.{arith}
+use Rattle.std.proofs.lemmas.Grind.{common_steps}
+use Rattle.hox_json.proofs.values.growths.Goals as goal
+
+pub returns : goal.returns
+returns c = grind (arith, common_steps)
+
+pub loop-line-preserved : goal.loop-line-preserved
+loop-line-preserved c = grind (arith, common_steps)

@@ -1,0 +1,7 @@
+-- Found without an answer too, after a longer search.
+use Rattle.std.proofs.Common.{arith}
+use Rattle.std.proofs.lemmas.Grind.{common_steps}
+use Rattle.hox_json.proofs.values.state.Goals as goal
+
+pub returns : goal.returns
+returns c = grind (arith, common_steps)
