@@ -1,0 +1,21 @@
+use Rattle.std.proofs.Common.{◌+◌, ◌*◌, ◌^◌, replicate, subst, sym, arith}
+use Rattle.kpn_formula.proofs.Runs.{IsRunning, starts_running, keeps_running, has_run, goes_on, ended}
+use Rattle.kpn_formula.proofs.running.run.Goals as goal
+
+pub loop-stack-init : goal.loop-stack-init
+loop-stack-init c =
+    let n = c.args.low + 2 ^ 64 * c.args.middle + 2 ^ 128 * c.args.high in
+    subst (λ m. IsRunning n c.args.values.now (replicate 41 0) 40 c.args.values.now 0 m) (sym c.of-cursor.ensures)
+    (starts_running n c.args.values.now (omega (arith, c.ranges.low.fits, c.ranges.middle.fits, c.ranges.high.fits)))
+
+pub loop-stack-preserved : goal.loop-stack-preserved
+loop-stack-preserved c =
+    keeps_running _ c.args.values.now c.loop-stack.words c.loop-stack.stack.top c.loop-stack.values c.loop-stack.stack.last c.loop-stack.cursor c.loop-stack.invariant c.code.result c.code.ensures
+    (goes_on c.code.result c.perform.result c.perform.ensures.goes_on c.loop-stack-test.true)
+    c.perform.new.cursor c.perform.new.self.top c.perform.new.self.last c.perform.new.words c.perform.new.values c.perform.ensures.is c.perform.ensures.rest c.perform.ensures.room c.perform.ensures.within c.perform.ensures.zeros
+
+pub returns : goal.returns
+returns c =
+    has_run _ c.args.values.now c.loop-stack.words c.loop-stack.stack.top c.loop-stack.values c.loop-stack.stack.last c.loop-stack.cursor c.loop-stack.invariant c.code.result c.code.ensures
+    (ended c.code.result c.perform.result c.perform.ensures.goes_on c.loop-stack-test.false)
+    c.perform.new.self.top c.perform.new.self.last c.perform.new.words c.perform.new.values c.perform.ensures.is
