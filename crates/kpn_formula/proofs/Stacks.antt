@@ -1,6 +1,6 @@
 -- Stacks that grow downwards in an array that ends with zeros.
-use Rattle.std.proofs.Common.{◌≡◌, ◌∙◌, inl, inr, ℕ, zero, suc, ◌+◌, ◌-◌, ◌<◌, ◌≤◌, min, List, [], ◌∷◌, length, drop, take, set, replicate, refl, sym, ap, unsigned_abs, arith}
-use Rattle.std.proofs.lemmas.List.{drop-set, drop-drop, get_or_past, get_or-drop, get_or-take, get_or-set_other, length-take, length-drop}
+use Rattle.std.proofs.Common.{◌≡◌, ◌∙◌, inl, inr, ℕ, zero, suc, ◌+◌, ◌-◌, ◌<◌, min, List, [], ◌∷◌, length, drop, take, set, replicate, refl, sym, ap, unsigned_abs, arith}
+use Rattle.std.proofs.lemmas.List.{drop-set, get_or-drop, get_or-take, get_or-set_other}
 use Rattle.kpn_standard.specs.Locals.{at}
 use Rattle.kpn_formula.specs.declared.instruction.Instruction.{Instruction}
 use Rattle.kpn_formula.specs.declared.instruction.Instruction.TheVariants.{End, Push, Times, Shift, Not, Abs, Choose, Apply, Load, Store}

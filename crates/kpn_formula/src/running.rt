@@ -1,6 +1,7 @@
 //! Runs the programs of cards.
 ghost use Rattle.std.specs.Prelude.{true, ◌≡◌, ◌<◌, ◌≤◌, ◌+◌, ◌-◌, ◌*◌, ◌/◌, ◌^◌, ◌==◌, ℕ, length, take, set, min, not};
 ghost use Rattle.kpn_standard.specs.Locals.{at};
+ghost use Rattle.kpn_formula.specs.declared.instruction.Instruction.TheVariants.{Apply};
 ghost use Rattle.kpn_formula.specs.Programs.{executed, chosen, values_after};
 ghost use Rattle.kpn_formula.specs.Cards.{after_end, before_end, instruction};
 ghost use Rattle.kpn_formula.specs.Reading.{IsReadable, first_three, program_at};
@@ -113,6 +114,29 @@ impl Stack {
 }
 
 impl Stack {
+    /// Applies an operation, passes its code, and returns true.
+    #[inline(always)]
+    fn apply(
+        &mut self,
+        words: &mut [u64; ROOM],
+        values: &mut [u64; 16],
+        cursor: &mut Cursor,
+        op: Operation,
+    ) -> bool
+        requires room { 0 < self.old.top }
+        requires within { self.old.top < 41 }
+        requires zeros { AreZeros 40 words.old }
+        ensures is { IsSame (executed (Apply op) (working words.old self.old.top values.old self.old.last)) (working words.new self.new.top values.new self.new.last) }
+        ensures rest { cursor.new ≡ cursor.old / 32 }
+        ensures room { self.old.top ≤ self.new.top + 1 }
+        ensures within { self.new.top < 41 }
+        ensures zeros { AreZeros 40 words.new }
+        ensures goes_on { result ≡ true }
+    {
+        let instruction = cursor.alone(Instruction::Apply(op));
+        self.does(words, values, instruction)
+    }
+
     /// Executes the instruction of a code, and passes both; returns false at the code of an End.
     #[inline(always)]
     fn perform(
@@ -142,71 +166,19 @@ impl Stack {
             5 => self.does(words, values, cursor.alone(Instruction::Not)),
             6 => self.does(words, values, cursor.alone(Instruction::Abs)),
             7 => self.does(words, values, cursor.alone(Instruction::Choose)),
-            8 => self.does(
-                words,
-                values,
-                cursor.alone(Instruction::Apply(Operation::Add)),
-            ),
-            9 => self.does(
-                words,
-                values,
-                cursor.alone(Instruction::Apply(Operation::Subtract)),
-            ),
-            10 => self.does(
-                words,
-                values,
-                cursor.alone(Instruction::Apply(Operation::Multiply)),
-            ),
-            11 => self.does(
-                words,
-                values,
-                cursor.alone(Instruction::Apply(Operation::Divide)),
-            ),
-            12 => self.does(
-                words,
-                values,
-                cursor.alone(Instruction::Apply(Operation::Remain)),
-            ),
-            13 => self.does(
-                words,
-                values,
-                cursor.alone(Instruction::Apply(Operation::ShiftLeft)),
-            ),
-            14 => self.does(
-                words,
-                values,
-                cursor.alone(Instruction::Apply(Operation::ShiftRight)),
-            ),
-            15 => self.does(
-                words,
-                values,
-                cursor.alone(Instruction::Apply(Operation::And)),
-            ),
-            16 => self.does(
-                words,
-                values,
-                cursor.alone(Instruction::Apply(Operation::Or)),
-            ),
-            17 => self.does(
-                words,
-                values,
-                cursor.alone(Instruction::Apply(Operation::ExclusiveOr)),
-            ),
-            18 => self.does(
-                words,
-                values,
-                cursor.alone(Instruction::Apply(Operation::Min)),
-            ),
-            19 => self.does(
-                words,
-                values,
-                cursor.alone(Instruction::Apply(Operation::Max)),
-            ),
-            20 => self.does(
-                words,
-                values,
-                cursor.alone(Instruction::Apply(Operation::IsLess)),
-            ),
+            8 => self.apply(words, values, cursor, Operation::Add),
+            9 => self.apply(words, values, cursor, Operation::Subtract),
+            10 => self.apply(words, values, cursor, Operation::Multiply),
+            11 => self.apply(words, values, cursor, Operation::Divide),
+            12 => self.apply(words, values, cursor, Operation::Remain),
+            13 => self.apply(words, values, cursor, Operation::ShiftLeft),
+            14 => self.apply(words, values, cursor, Operation::ShiftRight),
+            15 => self.apply(words, values, cursor, Operation::And),
+            16 => self.apply(words, values, cursor, Operation::Or),
+            17 => self.apply(words, values, cursor, Operation::ExclusiveOr),
+            18 => self.apply(words, values, cursor, Operation::Min),
+            19 => self.apply(words, values, cursor, Operation::Max),
+            20 => self.apply(words, values, cursor, Operation::IsLess),
             21 => self.does(words, values, cursor.alone(Instruction::Load(0))),
             22 => self.does(words, values, cursor.alone(Instruction::Load(1))),
             23 => self.does(words, values, cursor.alone(Instruction::Load(2))),

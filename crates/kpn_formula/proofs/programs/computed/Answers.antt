@@ -1,7 +1,7 @@
 use Rattle.std.proofs.Common.{◌≡◌, ◌∙◌, List, ℕ, take, ap, subst}
 use Rattle.kpn_formula.specs.declared.programs.Counts.{Counts}
 use Rattle.kpn_formula.specs.Cards.{before_end}
-use Rattle.kpn_formula.specs.Formulas.{outputs_in, results, states_in, values}
+use Rattle.kpn_formula.specs.Formulas.{outputs_in, states_in, values}
 use Rattle.kpn_formula.specs.Programs.{values_after}
 use Rattle.kpn_formula.specs.Reading.{HoldsFrom, program_at}
 use Rattle.kpn_formula.proofs.programs.computed.Goals as goal
