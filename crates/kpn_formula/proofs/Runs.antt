@@ -46,28 +46,28 @@ module _ (card : Card) (n : ℕ) (w : Working) (values : List ℕ) (left : IsLef
       }
 
 -- a program runs: a number holds the digits that are left, of which there are fewer than there is room
-pub record IsRunning (n : ℕ) (start words : List ℕ) (top : ℕ) (values : List ℕ) (v m : ℕ) : Type 0 where
-  pub within : top < 41
+pub record IsRunning (size n : ℕ) (start words : List ℕ) (top : ℕ) (values : List ℕ) (v m : ℕ) : Type 0 where
+  pub within : top < size
   pub room : 0 < top
-  pub zeros : AreZeros 40 words
+  pub zeros : AreZeros (size - 1) words
   pub short : m < 32 ^ (top - 1)
   pub left : (card : Card) (p : ℕ) → HoldsFrom card p n → IsLeft card m (working words top values v) (values_after (before_end (program_at card p)) (take 6 start))
 
-none_pushed : (k : ℕ) → at (0 ∷ drop 40 (replicate 41 0)) k ≡ at [] k
-none_pushed zero = refl
-none_pushed (suc k) = get_or-drop 40 (replicate 41 0) k 0 ∙ zeros_at 41 (40 + k)
+none_pushed : (size k : ℕ) → at (0 ∷ drop (size - 1) (replicate size 0)) k ≡ at [] k
+none_pushed size zero = refl
+none_pushed size (suc k) = get_or-drop (size - 1) (replicate size 0) k 0 ∙ zeros_at size (size - 1 + k)
 
-pub starts_running : (n : ℕ) (values : List ℕ) → n < 2 ^ 192 → IsRunning n values (replicate 41 0) 40 values 0 n
-starts_running n values small =
+pub starts_running : (size n : ℕ) (values : List ℕ) → 2 ≤ size → n < 32 ^ (size - 2) → IsRunning size n values (replicate size 0) (size - 1) values 0 n
+starts_running size n values some small =
     record {
-      within = omega arith;
-      room = omega arith;
-      zeros = λ k past. zeros_at 41 k;
-      short = omega (arith, small);
+      within = omega (arith, some);
+      room = omega (arith, some);
+      zeros = λ k past. zeros_at size k;
+      short = subst (λ k. n < 32 ^ k) (omega (arith, some)) small;
       left = λ card p held. record {
         place = p;
         held = held;
-        same = run_same (before_end (program_at card p)) _ (record { values = take 6 values; stack = [] }) (record { values = refl; stack = none_pushed });
+        same = run_same (before_end (program_at card p)) _ (record { values = take 6 values; stack = [] }) (record { values = refl; stack = none_pushed size });
       };
     }
 
@@ -93,7 +93,7 @@ has_room (suc (suc top)) m some less = omega arith
 stays_short : (j top m rest : ℕ) → m < 32 ^ (j + 1) → rest ≤ m / 32 → j ≤ top → rest < 32 ^ top
 stays_short j top m rest less fewer long = omega (arith, less, fewer, pow-add 32 j 1, pow-le-pow_right {n = 32} (omega arith) long)
 
-module _ (n : ℕ) (start words : List ℕ) (top : ℕ) (values : List ℕ) (v m : ℕ) (running : IsRunning n start words top values v m) (code : ℕ) (is : code ≡ m % 32) where
+module _ (size n : ℕ) (start words : List ℕ) (top : ℕ) (values : List ℕ) (v m : ℕ) (running : IsRunning size n start words top values v m) (code : ℕ) (is : code ≡ m % 32) where
   some_left : (code ≡ 0 → ⊥) → 0 < m
   some_left some = grind (arith, is)
 
@@ -103,7 +103,7 @@ module _ (n : ℕ) (start words : List ℕ) (top : ℕ) (values : List ℕ) (v m
   pub keeps_running :
       (code ≡ 0 → ⊥) → (rest top' v' : ℕ) (words' values' : List ℕ)
       → IsSame (executed (instruction code (first_three (m / 32))) (working words top values v)) (working words' top' values' v')
-      → rest ≡ passed code m → top ≤ top' + 1 → top' < 41 → AreZeros 40 words' → IsRunning n start words' top' values' v' rest
+      → rest ≡ passed code m → top ≤ top' + 1 → top' < size → AreZeros (size - 1) words' → IsRunning size n start words' top' values' v' rest
   keeps_running some rest top' v' words' values' same behind room within zeros =
       let behind_it : rest ≡ behind_operands code (m / 32) = behind ∙ passes code m some in
       let enough = has_room top m (some_left some) running.short in

@@ -28,10 +28,10 @@ pub zeros_stay : (n : ℕ) (words : List ℕ) (place word : ℕ) → place < n �
 zeros_stay n words place word below zeros k past = get_or-set_other words place k word 0 (λ same. absurd (omega (arith, same))) ∙ zeros k past
 
 -- behind one word that was taken
-module _ (words : List ℕ) (top rest : ℕ) (zeros : AreZeros 40 words) (is : rest ≡ min (top + 1) 40) where
+module _ (n : ℕ) (words : List ℕ) (top rest : ℕ) (zeros : AreZeros n words) (is : rest ≡ min (top + 1) n) where
   behind_one : (k : ℕ) → at words (rest + k) ≡ at words (top + (k + 1))
   behind_one k =
-      elim (split (top + 1) 40) [
+      elim (split (top + 1) n) [
         | inl less ↦ ap (λ j. at words j) (omega (arith, is))
         | inr past ↦ zeros (rest + k) (omega (arith, is)) ∙ sym (zeros (top + (k + 1)) (omega arith))
       ]
@@ -46,13 +46,13 @@ below : (xs : List ℕ) (n k : ℕ) → at (drop n xs) k ≡ at xs (k + n)
 below xs n k = get_or-drop n xs k 0 ∙ ap (λ j. at xs j) (omega arith)
 
 -- instructions that take words
-module _ (words values : List ℕ) (top v first rest : ℕ) (zeros : AreZeros 40 words) (taken : first ≡ at words top) (behind : rest ≡ min (top + 1) 40) where
+module _ (n : ℕ) (words values : List ℕ) (top v first rest : ℕ) (zeros : AreZeros n words) (taken : first ≡ at words top) (behind : rest ≡ min (top + 1) n) where
   pub applied_same : (op : Operation) (word : ℕ) → word ≡ applied op first v → IsSame (executed (Apply op) (working words top values v)) (working words rest values word)
   applied_same op word is = record { values = refl; stack = stack }
     where
       stack : (k : ℕ) → last (executed (Apply op) (working words top values v)) k ≡ last (working words rest values word) k
       stack zero = ap (λ x. applied op x v) (here words top ∙ sym taken) ∙ sym is
-      stack (suc k) = below (drop top words) 1 k ∙ sym (popped words top rest zeros behind k)
+      stack (suc k) = below (drop top words) 1 k ∙ sym (popped n words top rest zeros behind k)
 
   pub stored_same : (k place : ℕ) (after : List ℕ) → k ≡ place → after ≡ set values k v → IsSame (executed (Store place) (working words top values v)) (working words rest after first)
   stored_same k place after at_place is = record { values = vals; stack = stack }
@@ -62,20 +62,20 @@ module _ (words values : List ℕ) (top v first rest : ℕ) (zeros : AreZeros 40
 
       stack : (k : ℕ) → at (drop top words) k ≡ at (first ∷ drop rest words) k
       stack zero = here words top ∙ sym taken
-      stack (suc k) = ap (λ j. at (drop top words) j) (omega arith) ∙ sym (popped words top rest zeros behind k)
+      stack (suc k) = ap (λ j. at (drop top words) j) (omega arith) ∙ sym (popped n words top rest zeros behind k)
 
-  pub chosen_same : (condition last_rest word : ℕ) → condition ≡ at words rest → last_rest ≡ min (rest + 1) 40 → word ≡ chosen condition first v → IsSame (executed Choose (working words top values v)) (working words last_rest values word)
+  pub chosen_same : (condition last_rest word : ℕ) → condition ≡ at words rest → last_rest ≡ min (rest + 1) n → word ≡ chosen condition first v → IsSame (executed Choose (working words top values v)) (working words last_rest values word)
   chosen_same condition last_rest word found behind_both is = record { values = refl; stack = stack }
     where
       second : at (drop top words) 1 ≡ condition
-      second = sym (popped words top rest zeros behind 0) ∙ here words rest ∙ sym found
+      second = sym (popped n words top rest zeros behind 0) ∙ here words rest ∙ sym found
 
       stack : (k : ℕ) → last (executed Choose (working words top values v)) k ≡ last (working words last_rest values word) k
       stack zero = ap (λ x. chosen x (at (drop top words) 0) v) second ∙ ap (λ x. chosen condition x v) (here words top ∙ sym taken) ∙ sym is
       stack (suc k) =
           below (drop top words) 2 k
           ∙ ap (λ j. at (drop top words) j) (omega arith)
-          ∙ sym (popped words rest last_rest zeros behind_both k ∙ popped words top rest zeros behind (k + 1))
+          ∙ sym (popped n words rest last_rest zeros behind_both k ∙ popped n words top rest zeros behind (k + 1))
 
 -- a word that is pushed
 pub pushed_same : (words values more : List ℕ) (top v place word pushed : ℕ) → top < length words → 0 < top → place ≡ top - 1 → more ≡ set words (top - 1) v → pushed ≡ word → IsSame (executed (Push word) (working words top values v)) (working more place values pushed)

@@ -147,8 +147,7 @@ fn computed(card: &Card, start: usize, kept: Local, inputs: [u64; 3]) -> (Local,
 {
     let counts = counts_of(card.kind);
     let mut values = values(counts, kept, inputs);
-    let (low, middle, high) = Cursor::at(card, start).words();
-    run(low, middle, high, &mut values);
+    run(Cursor::at(card, start), &mut values);
     results(counts, values)
 }
 

@@ -13,9 +13,11 @@ use crate::reading::{Cursor, code_at, operands};
 use kpn_model::Card;
 use kpn_signals::words;
 
-/// How many words there are for a stack below its last one, and a 0 behind them: no program pushes more, since it has 36
-/// digits.
-const ROOM: usize = 41;
+/// How many words there are for the stack of a program of up to 12 digits, with a 0 behind them.
+const FEW: usize = 15;
+
+/// How many words there are for that of every other program: it pushes one for each of 36 digits at most.
+const MANY: usize = 41;
 
 /// The stack of a program that runs: its last word, and the place of the word before it in an array, in which the stack
 /// grows downwards. The array's last word stays 0, and is read where nothing was pushed.
@@ -30,9 +32,9 @@ struct Stack {
 
 impl Stack {
     #[inline(always)]
-    fn push(&mut self, words: &mut [u64; ROOM], word: u64)
+    fn push<const N: usize>(&mut self, words: &mut [u64; N], word: u64)
         requires room { 0 < self.old.top }
-        requires within { self.old.top < 41 }
+        requires within { self.old.top < N }
         ensures last { self.new.last ≡ word }
         ensures top { self.new.top ≡ self.old.top - 1 }
         ensures words { words.new ≡ set words.old (self.old.top - 1) self.old.last }
@@ -44,27 +46,32 @@ impl Stack {
 
     /// Takes the word before the last one.
     #[inline(always)]
-    fn pop(&mut self, words: &[u64; ROOM]) -> u64
-        requires within { self.old.top < 41 }
+    fn pop<const N: usize>(&mut self, words: &[u64; N]) -> u64
+        requires within { self.old.top < N }
         ensures is { result ≡ at words.now self.old.top }
         ensures last { self.new.last ≡ self.old.last }
-        ensures top { self.new.top ≡ min (self.old.top + 1) 40 }
+        ensures top { self.new.top ≡ min (self.old.top + 1) (N - 1) }
     {
         let word = words[self.top];
-        self.top += usize::from(self.top < ROOM - 1);
+        self.top += usize::from(self.top < N - 1);
         word
     }
 
     #[inline(always)]
-    fn execute(&mut self, words: &mut [u64; ROOM], values: &mut [u64; 16], instruction: Instruction)
+    fn execute<const N: usize>(
+        &mut self,
+        words: &mut [u64; N],
+        values: &mut [u64; 16],
+        instruction: Instruction,
+    )
         requires readable { IsReadable instruction }
         requires room { 0 < self.old.top }
-        requires within { self.old.top < 41 }
-        requires zeros { AreZeros 40 words.old }
+        requires within { self.old.top < N }
+        requires zeros { AreZeros (N - 1) words.old }
         ensures is { IsSame (executed instruction (working words.old self.old.top values.old self.old.last)) (working words.new self.new.top values.new self.new.last) }
         ensures room { self.old.top ≤ self.new.top + 1 }
-        ensures within { self.new.top < 41 }
-        ensures zeros { AreZeros 40 words.new }
+        ensures within { self.new.top < N }
+        ensures zeros { AreZeros (N - 1) words.new }
     {
         match instruction {
             Instruction::End => {}
@@ -92,20 +99,20 @@ impl Stack {
 
     /// Executes an instruction, and returns true.
     #[inline(always)]
-    fn does(
+    fn does<const N: usize>(
         &mut self,
-        words: &mut [u64; ROOM],
+        words: &mut [u64; N],
         values: &mut [u64; 16],
         instruction: Instruction,
     ) -> bool
         requires readable { IsReadable instruction }
         requires room { 0 < self.old.top }
-        requires within { self.old.top < 41 }
-        requires zeros { AreZeros 40 words.old }
+        requires within { self.old.top < N }
+        requires zeros { AreZeros (N - 1) words.old }
         ensures is { IsSame (executed instruction (working words.old self.old.top values.old self.old.last)) (working words.new self.new.top values.new self.new.last) }
         ensures room { self.old.top ≤ self.new.top + 1 }
-        ensures within { self.new.top < 41 }
-        ensures zeros { AreZeros 40 words.new }
+        ensures within { self.new.top < N }
+        ensures zeros { AreZeros (N - 1) words.new }
         ensures goes_on { result ≡ true }
     {
         self.execute(words, values, instruction);
@@ -116,21 +123,21 @@ impl Stack {
 impl Stack {
     /// Applies an operation, passes its code, and returns true.
     #[inline(always)]
-    fn apply(
+    fn apply<const N: usize>(
         &mut self,
-        words: &mut [u64; ROOM],
+        words: &mut [u64; N],
         values: &mut [u64; 16],
         cursor: &mut Cursor,
         op: Operation,
     ) -> bool
         requires room { 0 < self.old.top }
-        requires within { self.old.top < 41 }
-        requires zeros { AreZeros 40 words.old }
+        requires within { self.old.top < N }
+        requires zeros { AreZeros (N - 1) words.old }
         ensures is { IsSame (executed (Apply op) (working words.old self.old.top values.old self.old.last)) (working words.new self.new.top values.new self.new.last) }
         ensures rest { cursor.new ≡ cursor.old / 32 }
         ensures room { self.old.top ≤ self.new.top + 1 }
-        ensures within { self.new.top < 41 }
-        ensures zeros { AreZeros 40 words.new }
+        ensures within { self.new.top < N }
+        ensures zeros { AreZeros (N - 1) words.new }
         ensures goes_on { result ≡ true }
     {
         let instruction = cursor.alone(Instruction::Apply(op));
@@ -139,22 +146,22 @@ impl Stack {
 
     /// Executes the instruction of a code, and passes both; returns false at the code of an End.
     #[inline(always)]
-    fn perform(
+    fn perform<const N: usize>(
         &mut self,
-        words: &mut [u64; ROOM],
+        words: &mut [u64; N],
         values: &mut [u64; 16],
         code: u64,
         cursor: &mut Cursor,
     ) -> bool
         requires code { code < 32 }
         requires room { 0 < self.old.top }
-        requires within { self.old.top < 41 }
-        requires zeros { AreZeros 40 words.old }
+        requires within { self.old.top < N }
+        requires zeros { AreZeros (N - 1) words.old }
         ensures is { IsSame (executed (instruction code (first_three (cursor.old / 32))) (working words.old self.old.top values.old self.old.last)) (working words.new self.new.top values.new self.new.last) }
         ensures rest { cursor.new ≡ passed code cursor.old }
         ensures room { self.old.top ≤ self.new.top + 1 }
-        ensures within { self.new.top < 41 }
-        ensures zeros { AreZeros 40 words.new }
+        ensures within { self.new.top < N }
+        ensures zeros { AreZeros (N - 1) words.new }
         ensures goes_on { result ≡ not (code == 0) }
     {
         match code {
@@ -201,18 +208,35 @@ fn chosen(condition: u64, first: u64, second: u64) -> u64
     if condition == 0 { second } else { first }
 }
 
-/// Runs the program whose digits three words hold, up to an End, on the values that stand in the first six places.
+/// Runs a program, up to an End, on the values that stand in the first six places.
+#[inline(always)]
+pub(crate) fn run(program: Cursor, values: &mut [u64; 16])
+    ensures { RunsFrom program values.old values.new }
+{
+    let (low, middle, high) = program.words();
+    if middle == 0 && high == 0 {
+        run_within::<FEW>(low, 0, 0, values);
+    } else {
+        run_within::<MANY>(low, middle, high, values);
+    }
+}
+
+/// Runs the program whose digits three words hold, with `N` words for its stack and the 0 behind them.
 ///
-/// It alone runs programs, so that the compiler makes one loop of it, with the instructions in place.
+/// It alone runs programs, so that the compiler makes one loop of it, with the instructions in place; and one more for
+/// short programs, which looks at the first word alone.
 #[inline(never)]
-pub(crate) fn run(low: u64, middle: u64, high: u64, values: &mut [u64; 16])
+fn run_within<const N: usize>(low: u64, middle: u64, high: u64, values: &mut [u64; 16])
+    requires some { 2 ≤ N }
+    requires few { N ≤ 64 }
+    requires short { low + 2 ^ 64 * middle + 2 ^ 128 * high < 32 ^ (N - 2) }
     ensures { RunsFrom (low + 2 ^ 64 * middle + 2 ^ 128 * high) values.old values.new }
 {
     let mut stack = Stack {
         last: 0,
-        top: ROOM - 1,
+        top: N - 1,
     };
-    let mut words = [0; ROOM];
+    let mut words = [0; N];
     let mut cursor = Cursor::of(low, middle, high);
     while stack.perform(&mut words, values, cursor.code(), &mut cursor) {}
 }
