@@ -1,10 +1,10 @@
 -- Values that are laid one over the other.
-use Rattle.std.proofs.Common.{◌≡◌, ◌∙◌, ◌⊎◌, inl, inr, ℕ, zero, suc, ◌+◌, ◌-◌, ◌<◌, ◌≤◌, nat_lt, if◌then◌else◌, true, false, List, [], ◌∷◌, length, set, take, refl, sym, ap, arith}
+use Rattle.std.proofs.Common.{◌≡◌, ◌∙◌, ◌⊎◌, inl, inr, ℕ, zero, suc, ◌+◌, ◌-◌, ◌<◌, ◌≤◌, nat_lt, if◌then◌else◌, true, false, List, [], ◌∷◌, length, set, take, refl, sym, ap, subst, arith}
 use Rattle.std.proofs.lemmas.List.{length-set, get_or_past, get_or-take, get_or-set_same, get_or-set_other}
 use Rattle.std.proofs.lemmas.Bool.Decides.{nat_tests}
 use Rattle.kpn_standard.specs.Locals.{at}
 use Rattle.kpn_formula.specs.Formulas.{part, value, values, states_in, outputs_in}
-use Rattle.kpn_formula.specs.Running.{laid, cleared}
+use Rattle.kpn_formula.specs.Running.{laid, cleared, begun}
 use Rattle.kpn_formula.proofs.Held.{split}
 
 cond : (n m : ℕ) → (n ≡ m) ⊎ (n ≡ m → ⊥)
@@ -94,7 +94,7 @@ six (a ∷ b ∷ c ∷ d ∷ e ∷ []) f long is = absurd (omega arith)
 six (a ∷ b ∷ c ∷ d ∷ e ∷ g ∷ vs) f long is = rw (is 0 (omega arith), is 1 (omega arith), is 2 (omega arith), is 3 (omega arith), is 4 (omega arith), is 5 (omega arith)) refl
 
 -- four words, and zeros behind them
-abbrev filled : ℕ → ℕ → ℕ → ℕ → List ℕ
+abbrev pub filled : ℕ → ℕ → ℕ → ℕ → List ℕ
 filled a b c d = a ∷ b ∷ c ∷ d ∷ 0 ∷ 0 ∷ 0 ∷ 0 ∷ 0 ∷ 0 ∷ 0 ∷ 0 ∷ 0 ∷ 0 ∷ 0 ∷ 0 ∷ []
 
 filled_at : (a b c d k : ℕ) → at (filled a b c d) k ≡ at (a ∷ b ∷ c ∷ d ∷ []) k
@@ -180,7 +180,7 @@ module _ (s m n a b c d : ℕ) (inputs : List ℕ) (few_states : s < 8) (few_out
         ]
       ]
 
-  pub values_laid : take 6 third ≡ values s m n kept inputs
+  values_laid : take 6 third ≡ values s m n kept inputs
   values_laid = six third (λ k. value s m n kept inputs k) (omega (arith, third_long)) (λ k less. value_at k)
 
 -- the results in values, of which there are at most six
@@ -215,10 +215,16 @@ module _ (s m : ℕ) (vs : List ℕ) (few : s + m ≤ 6) (long : length vs ≡ 1
       let kept : after ≡ cleared s ends = cleared_is ∙ ap (λ l. cleared s l) is in
       rw (kept, is, state_kept 0 (omega arith), state_kept 1 (omega arith), state_kept 2 (omega arith), state_kept 3 (omega arith), output_first, output 1 (omega arith), output 2 (omega arith)) refl
 
-pub four : (ks : List ℕ) → length ks ≡ 4 → ks ≡ at ks 0 ∷ at ks 1 ∷ at ks 2 ∷ at ks 3 ∷ []
+four : (ks : List ℕ) → length ks ≡ 4 → ks ≡ at ks 0 ∷ at ks 1 ∷ at ks 2 ∷ at ks 3 ∷ []
 four [] long = absurd (omega (arith, long))
 four (a ∷ []) long = absurd (omega (arith, long))
 four (a ∷ b ∷ []) long = absurd (omega (arith, long))
 four (a ∷ b ∷ c ∷ []) long = absurd (omega (arith, long))
 four (a ∷ b ∷ c ∷ d ∷ []) long = refl
 four (a ∷ b ∷ c ∷ d ∷ e ∷ ks) long = absurd (omega (arith, long))
+
+-- the values of a round, over words that were kept
+pub values_begun : (s m n : ℕ) (kept inputs begins : List ℕ) → s < 8 → m < 4 → n < 4 → length kept ≡ 4 → length inputs ≡ 3 → begins ≡ begun s m n inputs (filled (at kept 0) (at kept 1) (at kept 2) (at kept 3)) → take 6 begins ≡ values s m n kept inputs
+values_begun s m n kept inputs begins few_states few_outputs few_inputs four_long three_long is =
+    subst (λ ks. take 6 begins ≡ values s m n ks inputs) (sym (four kept four_long))
+    (ap (take 6) is ∙ values_laid s m n (at kept 0) (at kept 1) (at kept 2) (at kept 3) inputs few_states few_outputs few_inputs three_long)

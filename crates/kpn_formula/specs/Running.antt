@@ -34,3 +34,7 @@ laid p words values = set (set (set values p (at words 0)) (p + 1) (at words 1))
 
 abbrev pub cleared : ℕ → List ℕ → List ℕ
 cleared p values = laid (p + 1) (0 ∷ 0 ∷ 0 ∷ []) (set values p 0)
+
+-- over words that were kept: zeros behind s states, the inputs behind m outputs, and zeros behind n inputs
+abbrev pub begun : ℕ → ℕ → ℕ → List ℕ → List ℕ → List ℕ
+begun s m n inputs values = laid (s + m + n) (0 ∷ 0 ∷ 0 ∷ []) (laid (s + m) inputs (cleared s values))

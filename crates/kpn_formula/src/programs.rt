@@ -1,8 +1,8 @@
 //! The kinds of formulas.
 ghost use Rattle.std.specs.Prelude.{◌≡◌, ◌≢◌, ◌<◌, ◌≤◌, ◌+◌, ◌^◌, ℕ, take, decimal, IsSome, MatchOption};
 ghost use Rattle.kpn_formula.specs.Cards.{before_end};
-ghost use Rattle.kpn_formula.specs.Formulas.{kind_name, named, outputs_in, results, start, states_in, step, values};
-ghost use Rattle.kpn_formula.specs.Running.{cleared, laid};
+ghost use Rattle.kpn_formula.specs.Formulas.{kind_name, named, outputs_in, results, start, states_in, step};
+ghost use Rattle.kpn_formula.specs.Running.{begun, cleared, laid};
 ghost use Rattle.kpn_formula.specs.Reading.{program_at};
 ghost use Rattle.kpn_formula.specs.Shapes.{inputs_of, outputs_of, ports, states_of};
 
@@ -60,36 +60,31 @@ fn clear(values: &mut [u64; 16], place: usize)
     lay(values, place + 1, [0; 3]);
 }
 
-/// Returns the values that a round begins with, in the first six places: each part is laid over what stands behind the one
-/// before, whatever their lengths.
+/// Lays what a round begins with over words that were kept, with zeros behind them: each part goes over what stands behind
+/// the one before, whatever their lengths.
 #[inline(always)]
-fn values(counts: Counts, kept: Local, inputs: [u64; 3]) -> [u64; 16]
+fn begin(counts: Counts, values: &mut [u64; 16], inputs: [u64; 3])
     requires states { counts.states < 8 }
     requires inputs { counts.inputs < 4 }
     requires outputs { counts.outputs < 4 }
-    ensures { take 6 result ≡ values counts.states counts.outputs counts.inputs kept inputs }
+    ensures { values.new ≡ begun counts.states counts.outputs counts.inputs inputs values.old }
 {
-    let [first, second, third, fourth] = kept;
-    let mut values = [
-        first, second, third, fourth, 0, 0, 0, 0, 0, 0, 0, 0, 0, 0, 0, 0,
-    ];
-    clear(&mut values, counts.states);
+    clear(values, counts.states);
     let behind_outputs = counts.states + counts.outputs;
-    lay(&mut values, behind_outputs, inputs);
-    lay(&mut values, behind_outputs + counts.inputs, [0; 3]);
-    values
+    lay(values, behind_outputs, inputs);
+    lay(values, behind_outputs + counts.inputs, [0; 3]);
 }
 
 /// Returns the states, which stand first, and the outputs behind them.
 #[inline(always)]
-fn results(counts: Counts, mut values: [u64; 16]) -> (Local, [u64; 3])
+fn results(counts: Counts, values: &mut [u64; 16]) -> (Local, [u64; 3])
     requires { counts.states + counts.outputs ≤ 6 }
-    ensures { result ≡ (states_in counts.states (take 6 values), outputs_in counts.states counts.outputs (take 6 values)) }
+    ensures { result ≡ (states_in counts.states (take 6 values.old), outputs_in counts.states counts.outputs (take 6 values.old)) }
 {
     let states = counts.states;
-    lay(&mut values, states + counts.outputs, [0; 3]);
+    lay(values, states + counts.outputs, [0; 3]);
     let made = [values[states], values[states + 1], values[states + 2]];
-    clear(&mut values, states);
+    clear(values, states);
     ([values[0], values[1], values[2], values[3]], made)
 }
 
@@ -140,15 +135,21 @@ impl Rounds for Programs {
 }
 
 /// Runs the program of a card that begins at digit `start`, and returns the states and the outputs after it.
+///
+/// The values stay in one place, since to copy them would wait for each word that was laid.
 #[inline(always)]
 fn computed(card: &Card, start: usize, kept: Local, inputs: [u64; 3]) -> (Local, [u64; 3])
     requires { IsSome (ports card.now) }
     ensures { result ≡ results card.now (before_end (program_at card.now start)) kept inputs }
 {
     let counts = counts_of(card.kind);
-    let mut values = values(counts, kept, inputs);
+    let [first, second, third, fourth] = kept;
+    let mut values = [
+        first, second, third, fourth, 0, 0, 0, 0, 0, 0, 0, 0, 0, 0, 0, 0,
+    ];
+    begin(counts, &mut values, inputs);
     run(Cursor::at(card, start), &mut values);
-    results(counts, values)
+    results(counts, &mut values)
 }
 
 /// Returns the number in a name of a kind; `None` if no kind has this name.
