@@ -11,3 +11,4 @@ pub mod Runs
 pub mod Held
 pub mod Stacks
 pub mod Zeros
+pub mod Laid

@@ -1,15 +1,16 @@
 -- A shape is read from its number as it was.
-use Rattle.std.proofs.Common.{◌≡◌, ◌∙◌, ℕ, ◌+◌, ◌*◌, ◌/◌, ◌%◌, ◌^◌, zero, suc, ◌<◌, ◌≤◌, ◌==◌, nat_le, nat_lt, ◌&&◌, if◌then◌else◌, Bool, true, false, List, [], ◌∷◌, length, Option, Some, None, refl, sym, ap, subst, arith, rules, eq-eqb, eqb-true, IsTrue}
+use Rattle.std.proofs.Common.{◌≡◌, ◌∙◌, ℕ, ◌+◌, ◌*◌, ◌/◌, ◌%◌, ◌^◌, zero, suc, ◌<◌, ◌≤◌, ◌==◌, nat_le, nat_lt, ◌&&◌, if◌then◌else◌, Bool, true, false, List, [], ◌∷◌, length, Option, Some, None, IsSome, option_map, refl, sym, ap, subst, arith, rules, eq-eqb, eqb-true, IsTrue}
 use Rattle.std.proofs.Math.Nat.{mod-eq_of_lt, mod-lt, mod-le}
 use Rattle.std.proofs.lemmas.Nat.{pow_pos}
 use Rattle.std.proofs.lemmas.Bool.Decides.{nat_tests}
 use Rattle.kpn_model.specs.declared.token.Sort.{Sort}
 use Rattle.kpn_model.specs.declared.token.Sort.TheVariants.{Words, Flags}
 use Rattle.kpn_model.specs.declared.kinds.Card.{Card}
+use Rattle.kpn_model.specs.declared.kinds.Signature.{Signature}
 use Rattle.kpn_model.specs.Lawful.{is_filled}
 use Rattle.kpn_rounds.specs.Steps.{count}
 use Rattle.kpn_formula.specs.declared.shape.Shape.{Shape}
-use Rattle.kpn_formula.specs.Shapes.{flags, number_of, ports_of, states_of, inputs_of, outputs_of, shape_numbered, is_allowed, is_allowed_with, most_states, is_kind, has_digits, shape_of}
+use Rattle.kpn_formula.specs.Shapes.{flags, number_of, ports_of, states_of, inputs_of, outputs_of, shape_numbered, is_allowed, is_allowed_with, most_states, is_kind, has_digits, shape_of, ports}
 
 record PortsRead (ports : List (Option Sort)) : Type 0 where
   pub same : ports_of (count ports) (flags ports) ≡ ports
@@ -228,3 +229,30 @@ kind_tests kind =
     let outs = ports_made (outputs_of kind) (kind / 1024 % 8) (omega arith) in
     shuffled (nat_lt kind (2 ^ 13)) (nat_lt (kind / 128 % 8) (2 ^ inputs_of kind)) (nat_lt (kind / 1024 % 8) (2 ^ outputs_of kind)) (is_allowed_with (states_of kind) (inputs_of kind) (outputs_of kind))
     ∙ rw (ins.filled, outs.filled, ins.many, outs.many, ins.flagged, outs.flagged) (ap (λ b. (true && true && is_allowed_with (states_of kind) (inputs_of kind) (outputs_of kind)) && b) (same_tests kind (2 ^ inputs_of kind) (2 ^ outputs_of kind) (pow_pos (inputs_of kind)) (pow_pos (outputs_of kind))))
+
+-- the values of a card with ports have room for its states and outputs
+fourth : (a b c d : Bool) → (a && b && c && d) ≡ true → d ≡ true
+fourth true true true d is = is
+fourth true true false d is = cc
+fourth true false c d is = cc
+fourth false b c d is = cc
+
+in_room : (k m : ℕ) → nat_le (k + m) 5 ≡ true → k + m ≤ 6
+in_room k m room = grind (arith, nat_tests)
+
+abbrev signature : Shape → Signature
+signature s = record { ins = s.ins; outs = s.outs }
+
+ported : (digits kind : Bool) (s : Shape) → IsSome (option_map (λ (t : Shape). signature t) (if digits && kind then Some s else None)) → kind ≡ true
+ported true true s some = refl
+ported true false s some = cc
+ported false kind s some = cc
+
+pub has_room : (card : Card) → IsSome (ports card) → states_of card.kind + outputs_of card.kind ≤ 6
+has_room card some =
+    let k = states_of card.kind in
+    let n = inputs_of card.kind in
+    let m = outputs_of card.kind in
+    let is = ported (has_digits card) (is_kind card.kind) (shape_numbered card.kind) some in
+    let allowed = fourth (nat_lt card.kind (2 ^ 13)) (nat_lt (card.kind / 128 % 8) (2 ^ n)) (nat_lt (card.kind / 1024 % 8) (2 ^ m)) (is_allowed_with k n m) (kind_tests card.kind ∙ is) in
+    in_room k m (second (nat_lt 0 (n + m)) (nat_le (k + m) 5) (nat_le (k + m + n) 6) (nat_le k (most_states n m)) allowed)

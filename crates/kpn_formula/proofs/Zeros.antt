@@ -1,5 +1,5 @@
 -- Before its first round a formula computes from zeros.
-use Rattle.std.proofs.Common.{◌≡◌, ℕ, ◌+◌, ◌-◌, zero, suc, nat_lt, if◌then◌else◌, Bool, true, false, List, [], ◌∷◌, refl}
+use Rattle.std.proofs.Common.{◌≡◌, ℕ, ◌+◌, ◌-◌, nat_lt, if◌then◌else◌, Bool, true, false, List, [], ◌∷◌, refl}
 use Rattle.kpn_standard.specs.Locals.{at}
 use Rattle.kpn_formula.specs.Formulas.{part, value, values}
 use Rattle.kpn_formula.proofs.Stacks.{zeros_at}

@@ -6,3 +6,4 @@ pub mod Encoding
 pub mod Spelling
 pub mod Reading
 pub mod Formulas
+pub mod Running

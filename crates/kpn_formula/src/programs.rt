@@ -1,11 +1,13 @@
 //! The kinds of formulas.
-ghost use Rattle.std.specs.Prelude.{◌≡◌, ◌≢◌, ◌<◌, ◌^◌, ℕ, decimal, MatchOption};
+ghost use Rattle.std.specs.Prelude.{◌≡◌, ◌≢◌, ◌<◌, ◌≤◌, ◌+◌, ◌^◌, ℕ, take, decimal, IsSome, MatchOption};
 ghost use Rattle.kpn_formula.specs.Cards.{before_end};
-ghost use Rattle.kpn_formula.specs.Formulas.{kind_name, named, outputs_in, part, results, start, states_in, step, value, values};
+ghost use Rattle.kpn_formula.specs.Formulas.{kind_name, named, outputs_in, results, start, states_in, step};
+ghost use Rattle.kpn_formula.specs.Running.{begun, cleared, laid};
 ghost use Rattle.kpn_formula.specs.Reading.{program_at};
 ghost use Rattle.kpn_formula.specs.Shapes.{inputs_of, outputs_of, ports, states_of};
 
-use crate::running::{opening_start, values_after};
+use crate::reading::Cursor;
+use crate::running::{opening_start, run};
 use crate::shape::Shape;
 use kpn_model::{Card, Local, Signature};
 use kpn_rounds::{Rounded, Rounds};
@@ -36,81 +38,54 @@ fn counts_of(kind: u16) -> Counts
     }
 }
 
-/// Returns word `place` of the `count` words from `start` on, and 0 behind them.
+/// Lays three words from a place on.
 #[inline(always)]
-fn part(start: usize, count: usize, words: &[u64], place: usize) -> u64
-    requires start { start < 16 }
-    requires place { place < 16 }
-    ensures { result ≡ part start count words.now place }
+fn lay(values: &mut [u64; 16], place: usize, words: [u64; 3])
+    requires { place ≤ 13 }
+    ensures { values.new ≡ laid place words values.old }
 {
-    if place >= count {
-        return 0;
-    }
-    match words.get(start + place) {
-        Some(word) => *word,
-        None => 0,
-    }
+    let [first, second, third] = words;
+    values[place] = first;
+    values[place + 1] = second;
+    values[place + 2] = third;
 }
 
+/// Lays four zeros from a place on.
 #[inline(always)]
-fn value(counts: Counts, kept: &Local, inputs: &[u64; 3], place: usize) -> u64
+fn clear(values: &mut [u64; 16], place: usize)
+    requires { place ≤ 12 }
+    ensures { values.new ≡ cleared place values.old }
+{
+    values[place] = 0;
+    lay(values, place + 1, [0; 3]);
+}
+
+/// Lays what a round begins with over words that were kept, with zeros behind them: each part goes over what stands behind
+/// the one before, whatever their lengths.
+#[inline(always)]
+fn begin(counts: Counts, values: &mut [u64; 16], inputs: [u64; 3])
     requires states { counts.states < 8 }
+    requires inputs { counts.inputs < 4 }
     requires outputs { counts.outputs < 4 }
-    requires place { place < 6 }
-    ensures { result ≡ value counts.states counts.outputs counts.inputs kept.now inputs.now place }
+    ensures { values.new ≡ begun counts.states counts.outputs counts.inputs inputs values.old }
 {
-    let first_input = counts.states + counts.outputs;
-    if place < first_input {
-        part(0, counts.states, kept, place)
-    } else {
-        part(0, counts.inputs, inputs, place - first_input)
-    }
+    clear(values, counts.states);
+    let behind_outputs = counts.states + counts.outputs;
+    lay(values, behind_outputs, inputs);
+    lay(values, behind_outputs + counts.inputs, [0; 3]);
 }
 
-/// Returns the values that a round begins with.
+/// Returns the states, which stand first, and the outputs behind them.
 #[inline(always)]
-fn values(counts: Counts, kept: &Local, inputs: &[u64; 3]) -> [u64; 6]
-    requires states { counts.states < 8 }
-    requires outputs { counts.outputs < 4 }
-    ensures { result ≡ values counts.states counts.outputs counts.inputs kept.now inputs.now }
+fn results(counts: Counts, values: &mut [u64; 16]) -> (Local, [u64; 3])
+    requires { counts.states + counts.outputs ≤ 6 }
+    ensures { result ≡ (states_in counts.states (take 6 values.old), outputs_in counts.states counts.outputs (take 6 values.old)) }
 {
-    let kept = states_in(counts.states, kept);
-    let read = outputs_in(0, counts.inputs, inputs);
-    match counts.states + counts.outputs {
-        0 => [read[0], read[1], read[2], 0, 0, 0],
-        1 => [kept[0], read[0], read[1], read[2], 0, 0],
-        2 => [kept[0], kept[1], read[0], read[1], read[2], 0],
-        3 => [kept[0], kept[1], kept[2], read[0], read[1], read[2]],
-        4 => [kept[0], kept[1], kept[2], kept[3], read[0], read[1]],
-        5 => [kept[0], kept[1], kept[2], kept[3], 0, read[0]],
-        _ => [kept[0], kept[1], kept[2], kept[3], 0, 0],
-    }
-}
-
-/// Returns the words of the states, which stand first, and zeros behind them.
-#[inline(always)]
-fn states_in(states: usize, values: &[u64]) -> Local
-    ensures { result ≡ states_in states values.now }
-{
-    [
-        part(0, states, values, 0),
-        part(0, states, values, 1),
-        part(0, states, values, 2),
-        part(0, states, values, 3),
-    ]
-}
-
-/// Returns the `outputs` words behind those of the states, and zeros behind them.
-#[inline(always)]
-fn outputs_in(states: usize, outputs: usize, values: &[u64]) -> [u64; 3]
-    requires { states < 8 }
-    ensures { result ≡ outputs_in states outputs values.now }
-{
-    [
-        part(states, outputs, values, 0),
-        part(states, outputs, values, 1),
-        part(states, outputs, values, 2),
-    ]
+    let states = counts.states;
+    lay(values, states + counts.outputs, [0; 3]);
+    let made = [values[states], values[states + 1], values[states + 2]];
+    clear(values, states);
+    ([values[0], values[1], values[2], values[3]], made)
 }
 
 impl Rounds for Programs {
@@ -161,15 +136,20 @@ impl Rounds for Programs {
 
 /// Runs the program of a card that begins at digit `start`, and returns the states and the outputs after it.
 ///
-/// It alone runs programs, so that the compiler makes one loop of it, with the instructions in place.
-#[inline(never)]
+/// The values stay in one place, since to copy them would wait for each word that was laid.
+#[inline(always)]
 fn computed(card: &Card, start: usize, kept: Local, inputs: [u64; 3]) -> (Local, [u64; 3])
+    requires { IsSome (ports card.now) }
     ensures { result ≡ results card.now (before_end (program_at card.now start)) kept inputs }
 {
     let counts = counts_of(card.kind);
-    let values = values_after(card, start, values(counts, &kept, &inputs));
-    let kept = states_in(counts.states, &values);
-    (kept, outputs_in(counts.states, counts.outputs, &values))
+    let [first, second, third, fourth] = kept;
+    let mut values = [
+        first, second, third, fourth, 0, 0, 0, 0, 0, 0, 0, 0, 0, 0, 0, 0,
+    ];
+    begin(counts, &mut values, inputs);
+    run(Cursor::at(card, start), &mut values);
+    results(counts, &mut values)
 }
 
 /// Returns the number in a name of a kind; `None` if no kind has this name.

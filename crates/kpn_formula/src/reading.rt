@@ -1,8 +1,9 @@
 //! Reads the digits of a card.
 ghost use Rattle.std.specs.Prelude.{◌≡◌, ◌<◌, ◌≤◌, ◌+◌, ◌*◌, ◌/◌, ◌%◌, ◌^◌, ℕ, length, IfSome, MatchOption};
 ghost use Rattle.kpn_formula.specs.Cards.{digit, extended, operands, three};
-ghost use Rattle.kpn_formula.specs.Reading.{EndsAt, HoldsFrom, IsCode, StandsAt, first_three};
+ghost use Rattle.kpn_formula.specs.Reading.{EndsAt, HoldsFrom, StandsAt, first_three};
 
+use crate::instruction::Instruction;
 use kpn_model::Card;
 use std::marker::Model;
 
@@ -84,47 +85,79 @@ impl Cursor {
     {
         let mut cursor = Cursor::new(card);
         for _ in 0..place {
-            cursor.operand();
+            cursor.pass();
         }
         cursor
     }
 
-    /// Takes an operand of one digit.
+    /// Returns the digits that three words hold.
     #[inline(always)]
-    pub(crate) fn operand(&mut self) -> u64
-        ensures is { result ≡ self.old % 32 }
-        ensures rest { self.new ≡ self.old / 32 }
+    pub(crate) fn of(low: u64, middle: u64, high: u64) -> Cursor
+        ensures { result ≡ low + 2 ^ 64 * middle + 2 ^ 128 * high }
     {
-        let digit = self.low % 32;
+        Cursor { low, middle, high }
+    }
+
+    /// Returns the three words.
+    #[inline(always)]
+    pub(crate) fn words(self) -> (u64, u64, u64)
+        ensures { self ≡ result.0 + 2 ^ 64 * result.1 + 2 ^ 128 * result.2 }
+    {
+        let Cursor { low, middle, high } = self;
+        (low, middle, high)
+    }
+
+    /// Returns the first digit, the code of an instruction.
+    #[inline(always)]
+    pub(crate) fn code(&self) -> u64
+        ensures { result ≡ self.now % 32 }
+    {
+        self.low % 32
+    }
+
+    /// Passes one digit.
+    #[inline(always)]
+    fn pass(&mut self)
+        ensures { self.new ≡ self.old / 32 }
+    {
         self.low = self.low / 32 + ((self.middle % 32) << 59);
         self.middle = self.middle / 32 + ((self.high % 32) << 59);
         self.high /= 32;
+    }
+
+    /// Passes a code, whose instruction has no operand, and returns that.
+    #[inline(always)]
+    pub(crate) fn alone(&mut self, instruction: Instruction) -> Instruction
+        ensures is { result ≡ instruction }
+        ensures rest { self.new ≡ self.old / 32 }
+    {
+        self.pass();
+        instruction
+    }
+
+    /// Passes a code and its operand of one digit, and returns that.
+    #[inline(always)]
+    pub(crate) fn operand(&mut self) -> u64
+        ensures is { result ≡ self.old / 32 % 32 }
+        ensures rest { self.new ≡ self.old / 1024 }
+    {
+        let digit = self.low / 32 % 32;
+        self.low = self.low / 1024 + ((self.middle % 1024) << 54);
+        self.middle = self.middle / 1024 + ((self.high % 1024) << 54);
+        self.high /= 1024;
         digit
     }
 
-    /// Takes the code of an instruction; `None` if it is that of an End.
-    #[inline(always)]
-    pub(crate) fn code(&mut self) -> Option<u64>
-        ensures is { MatchOption result (self.old % 32 ≡ 0) (IsCode self.old) }
-        ensures rest { self.new ≡ self.old / 32 }
-    {
-        let code = self.operand();
-        if code == 0 {
-            return None;
-        }
-        Some(code)
-    }
-
-    /// Takes an operand of three digits.
+    /// Passes a code and its operand of three digits, and returns that.
     #[inline(always)]
     pub(crate) fn long_operand(&mut self) -> u64
-        ensures is { result ≡ extended (three (first_three self.old)) }
-        ensures rest { self.new ≡ self.old / 32768 }
+        ensures is { result ≡ extended (three (first_three (self.old / 32))) }
+        ensures rest { self.new ≡ self.old / 1048576 }
     {
-        let number = self.low % 0x8000;
-        self.low = self.low / 0x8000 + ((self.middle % 0x8000) << 49);
-        self.middle = self.middle / 0x8000 + ((self.high % 0x8000) << 49);
-        self.high /= 0x8000;
+        let number = self.low / 32 % 0x8000;
+        self.low = self.low / 0x10_0000 + ((self.middle % 0x10_0000) << 44);
+        self.middle = self.middle / 0x10_0000 + ((self.high % 0x10_0000) << 44);
+        self.high /= 0x10_0000;
         if number < 0x4000 {
             number
         } else {

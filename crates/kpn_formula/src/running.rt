@@ -1,153 +1,202 @@
 //! Runs the programs of cards.
-ghost use Rattle.std.specs.Prelude.{◌≡◌, ◌<◌, ◌≤◌, ◌+◌, ℕ, [], length, drop, take};
+ghost use Rattle.std.specs.Prelude.{true, ◌≡◌, ◌<◌, ◌≤◌, ◌+◌, ◌-◌, ◌*◌, ◌/◌, ◌^◌, ◌==◌, ℕ, length, take, set, min, not};
 ghost use Rattle.kpn_standard.specs.Locals.{at};
-ghost use Rattle.kpn_formula.specs.Programs.{Working, executed, instead, last, chosen, values_after};
+ghost use Rattle.kpn_formula.specs.declared.instruction.Instruction.TheVariants.{Apply};
+ghost use Rattle.kpn_formula.specs.Programs.{executed, chosen, values_after};
 ghost use Rattle.kpn_formula.specs.Cards.{after_end, before_end, instruction};
-ghost use Rattle.kpn_formula.specs.declared.instruction.Instruction.TheVariants.{Store};
-ghost use Rattle.kpn_formula.specs.Reading.{IsReadable, behind_operands, first_three, program_at};
+ghost use Rattle.kpn_formula.specs.Reading.{IsReadable, first_three, program_at};
+ghost use Rattle.kpn_formula.specs.Running.{AreZeros, IsSame, RunsFrom, passed, working};
 
 use crate::instruction::{Instruction, Operation};
 use crate::operations::applied;
 use crate::reading::{Cursor, code_at, operands};
 use kpn_model::Card;
 use kpn_signals::words;
-use std::marker::Model;
 
-/// How many words a stack holds: no program pushes more, since it has 36 digits.
-const ROOM: usize = 40;
+/// How many words there are for the stack of a program of up to 12 digits, with a 0 behind them.
+const FEW: usize = 15;
 
-/// The values of a program that runs, and its stack, which grows downwards: its last word is `words[top]`. The three
-/// words behind its room stay 0, and are read where nothing was pushed.
+/// How many words there are for that of every other program: it pushes one for each of 36 digits at most.
+const MANY: usize = 41;
+
+/// The stack of a program that runs: its last word, and the place of the word before it in an array, in which the stack
+/// grows downwards. The array's last word stays 0, and is read where nothing was pushed.
+///
+/// The array is a variable of its own: a struct with an array that is indexed by a variable stays in memory, and each
+/// instruction would wait for what the one before stored.
 #[derive(Drop)]
-struct Workspace {
-    values: [u64; 6],
-    words: [u64; ROOM + 3],
+struct Stack {
+    last: u64,
     top: usize,
 }
 
-impl Model for Workspace {
-    ghost Value = { Working };
-
-    ghost view = { λ w. record { values = w.values; stack = drop w.top (take 40 w.words) } };
-
-    ghost invariant = { λ w. (w.top ≤ 40) × ((k : ℕ) → 40 ≤ k → at w.words k ≡ 0) };
-}
-
-impl Workspace {
+impl Stack {
     #[inline(always)]
-    fn new(values: [u64; 6]) -> Workspace
-        ensures { result ≡ record { values = values; stack = [] } }
-    {
-        Workspace {
-            values,
-            words: [0; ROOM + 3],
-            top: ROOM,
-        }
-    }
-
-    /// Returns word `k` of the stack, from the last on: 0 if there is none.
-    #[inline(always)]
-    fn last(&self, k: usize) -> u64
-        requires { k < 3 }
-        ensures { result ≡ last self.now k }
-    {
-        self.words[self.top + k]
-    }
-
-    #[inline(always)]
-    fn push(&mut self, word: u64)
-        requires { length self.old.stack < 40 }
-        ensures { self.new ≡ instead 0 word self.old }
+    fn push<const N: usize>(&mut self, words: &mut [u64; N], word: u64)
+        requires room { 0 < self.old.top }
+        requires within { self.old.top < N }
+        ensures last { self.new.last ≡ word }
+        ensures top { self.new.top ≡ self.old.top - 1 }
+        ensures words { words.new ≡ set words.old (self.old.top - 1) self.old.last }
     {
         self.top -= 1;
-        self.words[self.top] = word;
+        words[self.top] = self.last;
+        self.last = word;
     }
 
-    /// Takes `count` words from the stack, or all, and pushes one.
+    /// Takes the word before the last one.
     #[inline(always)]
-    fn put(&mut self, count: usize, word: u64)
-        requires count { count < 4 }
-        requires room { length self.old.stack < 40 + count }
-        ensures { self.new ≡ instead count word self.old }
+    fn pop<const N: usize>(&mut self, words: &[u64; N]) -> u64
+        requires within { self.old.top < N }
+        ensures is { result ≡ at words.now self.old.top }
+        ensures last { self.new.last ≡ self.old.last }
+        ensures top { self.new.top ≡ min (self.old.top + 1) (N - 1) }
     {
-        self.top = (self.top + count).min(ROOM) - 1;
-        self.words[self.top] = word;
-    }
-
-    /// Takes the last word from the stack for the value at a place.
-    #[inline(always)]
-    fn store(&mut self, place: u8)
-        requires { place < 6 }
-        ensures { self.new ≡ executed (Store place) self.old }
-    {
-        self.values[usize::from(place)] = self.last(0);
-        self.top = (self.top + 1).min(ROOM);
+        let word = words[self.top];
+        self.top += usize::from(self.top < N - 1);
+        word
     }
 
     #[inline(always)]
-    fn execute(&mut self, instruction: Instruction)
+    fn execute<const N: usize>(
+        &mut self,
+        words: &mut [u64; N],
+        values: &mut [u64; 16],
+        instruction: Instruction,
+    )
         requires readable { IsReadable instruction }
-        requires room { length self.old.stack < 40 }
-        ensures { self.new ≡ executed instruction self.old }
+        requires room { 0 < self.old.top }
+        requires within { self.old.top < N }
+        requires zeros { AreZeros (N - 1) words.old }
+        ensures is { IsSame (executed instruction (working words.old self.old.top values.old self.old.last)) (working words.new self.new.top values.new self.new.last) }
+        ensures room { self.old.top ≤ self.new.top + 1 }
+        ensures within { self.new.top < N }
+        ensures zeros { AreZeros (N - 1) words.new }
     {
-        let last = self.last(0);
         match instruction {
             Instruction::End => {}
-            Instruction::Push(word) => self.push(word),
-            Instruction::Times(word) => self.put(1, last.wrapping_mul(word)),
-            Instruction::Shift(bits) => self.put(1, words::right_shift(bits, last)),
-            Instruction::Not => self.put(1, u64::from(last == 0)),
-            Instruction::Abs => self.put(1, last.cast_signed().unsigned_abs()),
-            Instruction::Choose => self.put(3, chosen(self.last(2), self.last(1), last)),
-            Instruction::Apply(op) => self.put(2, applied(op, self.last(1), last)),
-            Instruction::Load(place) => self.push(self.values[usize::from(place)]),
-            Instruction::Store(place) => self.store(place),
+            Instruction::Push(word) => self.push(words, word),
+            Instruction::Times(word) => self.last = self.last.wrapping_mul(word),
+            Instruction::Shift(bits) => self.last = words::right_shift(bits, self.last),
+            Instruction::Not => self.last = u64::from(self.last == 0),
+            Instruction::Abs => self.last = self.last.cast_signed().unsigned_abs(),
+            Instruction::Choose => {
+                let first = self.pop(words);
+                let condition = self.pop(words);
+                self.last = chosen(condition, first, self.last);
+            }
+            Instruction::Apply(op) => {
+                let first = self.pop(words);
+                self.last = applied(op, first, self.last);
+            }
+            Instruction::Load(place) => self.push(words, values[usize::from(place)]),
+            Instruction::Store(place) => {
+                values[usize::from(place)] = self.last;
+                self.last = self.pop(words);
+            }
         }
+    }
+
+    /// Executes an instruction, and returns true.
+    #[inline(always)]
+    fn does<const N: usize>(
+        &mut self,
+        words: &mut [u64; N],
+        values: &mut [u64; 16],
+        instruction: Instruction,
+    ) -> bool
+        requires readable { IsReadable instruction }
+        requires room { 0 < self.old.top }
+        requires within { self.old.top < N }
+        requires zeros { AreZeros (N - 1) words.old }
+        ensures is { IsSame (executed instruction (working words.old self.old.top values.old self.old.last)) (working words.new self.new.top values.new self.new.last) }
+        ensures room { self.old.top ≤ self.new.top + 1 }
+        ensures within { self.new.top < N }
+        ensures zeros { AreZeros (N - 1) words.new }
+        ensures goes_on { result ≡ true }
+    {
+        self.execute(words, values, instruction);
+        true
     }
 }
 
-impl Workspace {
-    /// Executes the instruction of a code, whose operands it takes.
+impl Stack {
+    /// Applies an operation, passes its code, and returns true.
     #[inline(always)]
-    fn perform(&mut self, code: u64, cursor: &mut Cursor)
+    fn apply<const N: usize>(
+        &mut self,
+        words: &mut [u64; N],
+        values: &mut [u64; 16],
+        cursor: &mut Cursor,
+        op: Operation,
+    ) -> bool
+        requires room { 0 < self.old.top }
+        requires within { self.old.top < N }
+        requires zeros { AreZeros (N - 1) words.old }
+        ensures is { IsSame (executed (Apply op) (working words.old self.old.top values.old self.old.last)) (working words.new self.new.top values.new self.new.last) }
+        ensures rest { cursor.new ≡ cursor.old / 32 }
+        ensures room { self.old.top ≤ self.new.top + 1 }
+        ensures within { self.new.top < N }
+        ensures zeros { AreZeros (N - 1) words.new }
+        ensures goes_on { result ≡ true }
+    {
+        let instruction = cursor.alone(Instruction::Apply(op));
+        self.does(words, values, instruction)
+    }
+
+    /// Executes the instruction of a code, and passes both; returns false at the code of an End.
+    #[inline(always)]
+    fn perform<const N: usize>(
+        &mut self,
+        words: &mut [u64; N],
+        values: &mut [u64; 16],
+        code: u64,
+        cursor: &mut Cursor,
+    ) -> bool
         requires code { code < 32 }
-        requires room { length self.old.stack < 40 }
-        ensures is { self.new ≡ executed (instruction code (first_three cursor.old)) self.old }
-        ensures rest { cursor.new ≡ behind_operands code cursor.old }
+        requires room { 0 < self.old.top }
+        requires within { self.old.top < N }
+        requires zeros { AreZeros (N - 1) words.old }
+        ensures is { IsSame (executed (instruction code (first_three (cursor.old / 32))) (working words.old self.old.top values.old self.old.last)) (working words.new self.new.top values.new self.new.last) }
+        ensures rest { cursor.new ≡ passed code cursor.old }
+        ensures room { self.old.top ≤ self.new.top + 1 }
+        ensures within { self.new.top < N }
+        ensures zeros { AreZeros (N - 1) words.new }
+        ensures goes_on { result ≡ not (code == 0) }
     {
         match code {
-            0 => self.execute(Instruction::End),
-            1 => self.execute(Instruction::Push(cursor.operand())),
-            2 => self.execute(Instruction::Push(cursor.long_operand())),
-            3 => self.execute(Instruction::Times(cursor.long_operand())),
-            4 => self.execute(Instruction::Shift(cursor.operand())),
-            5 => self.execute(Instruction::Not),
-            6 => self.execute(Instruction::Abs),
-            7 => self.execute(Instruction::Choose),
-            8 => self.execute(Instruction::Apply(Operation::Add)),
-            9 => self.execute(Instruction::Apply(Operation::Subtract)),
-            10 => self.execute(Instruction::Apply(Operation::Multiply)),
-            11 => self.execute(Instruction::Apply(Operation::Divide)),
-            12 => self.execute(Instruction::Apply(Operation::Remain)),
-            13 => self.execute(Instruction::Apply(Operation::ShiftLeft)),
-            14 => self.execute(Instruction::Apply(Operation::ShiftRight)),
-            15 => self.execute(Instruction::Apply(Operation::And)),
-            16 => self.execute(Instruction::Apply(Operation::Or)),
-            17 => self.execute(Instruction::Apply(Operation::ExclusiveOr)),
-            18 => self.execute(Instruction::Apply(Operation::Min)),
-            19 => self.execute(Instruction::Apply(Operation::Max)),
-            20 => self.execute(Instruction::Apply(Operation::IsLess)),
-            21 => self.execute(Instruction::Load(0)),
-            22 => self.execute(Instruction::Load(1)),
-            23 => self.execute(Instruction::Load(2)),
-            24 => self.execute(Instruction::Load(3)),
-            25 => self.execute(Instruction::Load(4)),
-            26 => self.execute(Instruction::Load(5)),
-            27 => self.execute(Instruction::Store(0)),
-            28 => self.execute(Instruction::Store(1)),
-            29 => self.execute(Instruction::Store(2)),
-            30 => self.execute(Instruction::Store(3)),
-            _ => self.execute(Instruction::Store(4)),
+            0 => false,
+            1 => self.does(words, values, Instruction::Push(cursor.operand())),
+            2 => self.does(words, values, Instruction::Push(cursor.long_operand())),
+            3 => self.does(words, values, Instruction::Times(cursor.long_operand())),
+            4 => self.does(words, values, Instruction::Shift(cursor.operand())),
+            5 => self.does(words, values, cursor.alone(Instruction::Not)),
+            6 => self.does(words, values, cursor.alone(Instruction::Abs)),
+            7 => self.does(words, values, cursor.alone(Instruction::Choose)),
+            8 => self.apply(words, values, cursor, Operation::Add),
+            9 => self.apply(words, values, cursor, Operation::Subtract),
+            10 => self.apply(words, values, cursor, Operation::Multiply),
+            11 => self.apply(words, values, cursor, Operation::Divide),
+            12 => self.apply(words, values, cursor, Operation::Remain),
+            13 => self.apply(words, values, cursor, Operation::ShiftLeft),
+            14 => self.apply(words, values, cursor, Operation::ShiftRight),
+            15 => self.apply(words, values, cursor, Operation::And),
+            16 => self.apply(words, values, cursor, Operation::Or),
+            17 => self.apply(words, values, cursor, Operation::ExclusiveOr),
+            18 => self.apply(words, values, cursor, Operation::Min),
+            19 => self.apply(words, values, cursor, Operation::Max),
+            20 => self.apply(words, values, cursor, Operation::IsLess),
+            21 => self.does(words, values, cursor.alone(Instruction::Load(0))),
+            22 => self.does(words, values, cursor.alone(Instruction::Load(1))),
+            23 => self.does(words, values, cursor.alone(Instruction::Load(2))),
+            24 => self.does(words, values, cursor.alone(Instruction::Load(3))),
+            25 => self.does(words, values, cursor.alone(Instruction::Load(4))),
+            26 => self.does(words, values, cursor.alone(Instruction::Load(5))),
+            27 => self.does(words, values, cursor.alone(Instruction::Store(0))),
+            28 => self.does(words, values, cursor.alone(Instruction::Store(1))),
+            29 => self.does(words, values, cursor.alone(Instruction::Store(2))),
+            30 => self.does(words, values, cursor.alone(Instruction::Store(3))),
+            _ => self.does(words, values, cursor.alone(Instruction::Store(4))),
         }
     }
 }
@@ -159,17 +208,37 @@ fn chosen(condition: u64, first: u64, second: u64) -> u64
     if condition == 0 { second } else { first }
 }
 
-/// Runs the instructions from digit `start` on, up to an End, and returns the values after them.
+/// Runs a program, up to an End, on the values that stand in the first six places.
 #[inline(always)]
-pub(crate) fn values_after(card: &Card, start: usize, values: [u64; 6]) -> [u64; 6]
-    ensures { result ≡ values_after (before_end (program_at card.now start)) values }
+pub(crate) fn run(program: Cursor, values: &mut [u64; 16])
+    ensures { RunsFrom program values.old values.new }
 {
-    let mut space = Workspace::new(values);
-    let mut cursor = Cursor::at(card, start);
-    while let Some(code) = cursor.code() {
-        space.perform(code, &mut cursor);
+    let (low, middle, high) = program.words();
+    if middle == 0 && high == 0 {
+        run_within::<FEW>(low, 0, 0, values);
+    } else {
+        run_within::<MANY>(low, middle, high, values);
     }
-    space.values
+}
+
+/// Runs the program whose digits three words hold, with `N` words for its stack and the 0 behind them.
+///
+/// It alone runs programs, so that the compiler makes one loop of it, with the instructions in place; and one more for
+/// short programs, which looks at the first word alone.
+#[inline(never)]
+fn run_within<const N: usize>(low: u64, middle: u64, high: u64, values: &mut [u64; 16])
+    requires some { 2 ≤ N }
+    requires few { N ≤ 64 }
+    requires short { low + 2 ^ 64 * middle + 2 ^ 128 * high < 32 ^ (N - 2) }
+    ensures { RunsFrom (low + 2 ^ 64 * middle + 2 ^ 128 * high) values.old values.new }
+{
+    let mut stack = Stack {
+        last: 0,
+        top: N - 1,
+    };
+    let mut words = [0; N];
+    let mut cursor = Cursor::of(low, middle, high);
+    while stack.perform(&mut words, values, cursor.code(), &mut cursor) {}
 }
 
 /// Returns the place of the digit behind the first End, where the opening begins.
