@@ -51,7 +51,9 @@ fn line_of(alloc: Global, wrong: Wrong, part: &str) -> Result<String, AllocError
         Wrong::StrangeCharacter => format!(in alloc; "unexpected character"),
         Wrong::NumberTooLarge => format!(in alloc; "number of 2^64 or more"),
         Wrong::Gap => format!(in alloc; "inputs and outputs are used from 0 on, without gaps"),
-        Wrong::TooManyWords(by) => format!(in alloc; "too many states, inputs and outputs, by {by}"),
+        Wrong::TooManyWords(by) => format!(in alloc;
+            "too many states, inputs and outputs, by {by}"
+        ),
         Wrong::TooManyDigits(by) => format!(in alloc; "too many digits in the program, by {by}"),
         Wrong::TooDeep => format!(in alloc; "nested more than 60 deep"),
         Wrong::TooLong => format!(in alloc; "longer than 1000 bytes"),
