@@ -123,15 +123,17 @@ each output once, for ever.
   kind = \"y(100) = y + (in - y) / 8; out = y\"
 Assignments stand between semicolons and are made in order. Their targets are outputs (out, or out0 to out2) and states
 (any other name); the inputs are in, or in0 to in2. A state is 0 at first, or what stands in parentheses behind it at
-its first assignment. A name means what was assigned to it last: earlier in the round, or in the round before.
+its first assignment. A state means what was assigned to it last, in this round or before; an output is 0 until the
+round assigns it.
   c ? a : b    ||    &&    |    ^    &    == !=    < <= > >=    << >>    + -    * / %    - ~ ! in front
 are the operators, the loosest first; beside them min(a, b), max(a, b), abs(a), numbers and parentheses.
 Words are signed, modulo 2^64. A quotient is rounded down, and one by 0 is 0; a % b is what it leaves. A shift by 64 or
 more gives 0, to the right the sign. Comparisons, !, && and || give 1 or 0, and all but 0 counts as true.
-An input that is used just as a condition carries flags, and so does an output whose values are all true or false;
-all else carries words.
-A card has room for 36 digits: a name, an operator or an assignment takes one, a number up to 31 two, others up to
-16383 four (one less where a number is a factor or a shift to the right; a division by 2, 4, 8 .. takes two in all).
+An input that is used just as a condition carries flags, and so does an output that is always a comparison, !, && or
+||; all else carries words.
+A card has room for 36 digits: a name or an assignment takes one, an operator one to five (-a three, ~a five), a number
+up to 31 two, others up to 16383 four (one less where a number is a factor or a shift to the right; a division by 2, 4,
+8 .. takes two in all).
 ";
 
 /// Pictures, for the help of `draw`.

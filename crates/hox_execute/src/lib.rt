@@ -1,5 +1,5 @@
-//! The program `hox` as one function: from its arguments and the bytes of files to all that it writes, and
-//! the exit status.
+//! The program `hox` as functions from its arguments and the bytes of files to all that it writes, and the exit
+//! status: `execute`, which leaves streams and lists of kinds to its caller, and `stream`.
 #![tactic(auto)]
 
 mod checking;

@@ -243,6 +243,8 @@ fn described_in<K: Kinds, S: FileSystem>(
     }
 }
 
+/// Reads the text twice: as a network, for its faults and the names of its channels; and as a sketch, which
+/// `open_stream` changes.
 fn described_by<K: Kinds>(alloc: Global, text: &[u8]) -> Result<Described, Unopened>
     ensures ok { IfOk result (λ described. IsSketchOf K.named K.signature text.now described.sketch) }
     ensures fault { IfErr result (IsRefusedText K.named K.signature text.now) }
