@@ -137,7 +137,7 @@ impl Rounds for Programs {
 /// Runs the program of a card that begins at digit `start`, and returns the states and the outputs after it.
 ///
 /// The values stay in one place, since to copy them would wait for each word that was laid.
-#[inline(always)]
+#[inline(never)]
 fn computed(card: &Card, start: usize, kept: Local, inputs: [u64; 3]) -> (Local, [u64; 3])
     requires { IsSome (ports card.now) }
     ensures { result ≡ results card.now (before_end (program_at card.now start)) kept inputs }

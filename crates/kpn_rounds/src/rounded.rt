@@ -56,16 +56,27 @@ impl<R: Rounds> Kinds for Rounded<R> {
 impl<R: Rounds> Computes for Rounded<R> {
     #[inline(always)]
     fn answer(card: Card, local: Local, last: Option<Token>) -> Answer {
-        // Each turn asks for the ports by itself, so that it computes only what it needs of them.
         let ports = R::known_ports(&card);
         match next_turn(&ports, local, last) {
-            Turn::Reads(inputs) => reading(&R::known_ports(&card), local, inputs),
-            Turn::Writes(left) => writes(&R::known_ports(&card), local, left),
+            Turn::Reads(inputs) => reading(&ports, local, inputs),
+            Turn::Writes(left) => writes(&ports, local, left),
             Turn::Steps(inputs) => {
-                let (kept, made) = R::step(card, carried(&ports, local), inputs.words());
-                let ports = R::known_ports(&card);
+                let (kept, made) = R::step(copied(card), carried(&ports, local), inputs.words());
                 writes(&ports, kept, Numbers::first(count(&ports.outs), made))
             }
         }
+    }
+}
+
+/// Copies a card word by word. A call gets its arguments as places in memory, and so a step that is a call gets those of
+/// the copy: the card itself, which other families read too, stays in registers.
+#[inline(always)]
+fn copied(card: Card) -> Card
+    ensures { result ≡ card }
+{
+    let [first, second, third] = card.args;
+    Card {
+        kind: card.kind,
+        args: [first, second, third],
     }
 }
