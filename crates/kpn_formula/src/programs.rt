@@ -137,6 +137,8 @@ impl Rounds for Programs {
 /// Runs the program of a card that begins at digit `start`, and returns the states and the outputs after it.
 ///
 /// The values stay in one place, since to copy them would wait for each word that was laid.
+///
+/// It is a call, so that what asks bodies of all families stays small enough to be put in place.
 #[inline(never)]
 fn computed(card: &Card, start: usize, kept: Local, inputs: [u64; 3]) -> (Local, [u64; 3])
     requires { IsSome (ports card.now) }
