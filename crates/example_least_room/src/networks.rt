@@ -50,10 +50,10 @@ fn channels(alloc: Global) -> Result<Listed<ChannelSketch>, AllocError>
     ensures { IfOk result (λ channels. channels ≡ case_channels) }
 {
     let mut channels = Listed::new(Vec::new(alloc));
-    channels.push(channel(alloc, "c0", "src", 0, "cp", 0)?)?;
-    channels.push(channel(alloc, "c1", "cp", 0, "wv", 0)?)?;
-    channels.push(channel(alloc, "c2", "cp", 1, "wv", 1)?)?;
-    channels.push(channel(alloc, "c3", "wv", 0, "snk", 0)?)?;
+    channels.push(channel(alloc, "c0", ("src", 0), ("cp", 0))?)?;
+    channels.push(channel(alloc, "c1", ("cp", 0), ("wv", 0))?)?;
+    channels.push(channel(alloc, "c2", ("cp", 1), ("wv", 1))?)?;
+    channels.push(channel(alloc, "c3", ("wv", 0), ("snk", 0))?)?;
     Ok(channels)
 }
 
@@ -72,23 +72,21 @@ fn process(
     })
 }
 
-/// Makes a channel of words with capacity one.
+/// Makes a channel of words with capacity one, from a process's output to a process's input.
 fn channel(
     alloc: Global,
     name: &str,
-    from: &str,
-    out: i64,
-    to: &str,
-    input: i64,
+    from: (&str, i64),
+    to: (&str, i64),
 ) -> Result<ChannelSketch, AllocError>
-    ensures { IfOk result (λ c. c ≡ channel_sketch name.now from.now out to.now input) }
+    ensures { IfOk result (λ c. c ≡ channel_sketch name.now from.0.now from.1 to.0.now to.1) }
 {
     Ok(ChannelSketch {
         name: text(alloc, name)?,
-        from: text(alloc, from)?,
-        to: text(alloc, to)?,
-        out,
-        input,
+        from: text(alloc, from.0)?,
+        to: text(alloc, to.0)?,
+        out: from.1,
+        input: to.1,
         sort: Sort::Words,
         capacity: 1,
         tokens: Listed::new(Vec::new(alloc)),

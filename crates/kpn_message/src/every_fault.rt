@@ -89,7 +89,13 @@ fn push_due<K: Kinds>(
     if !is_due::<K>(sketch, fault) {
         return;
     }
-    push_place::<K>(alloc, messages, sketch, fault, Location::Description, kinds);
+    push_place::<K>(
+        alloc,
+        messages,
+        sketch,
+        (fault, Location::Description),
+        kinds,
+    );
     push_processes::<K>(alloc, messages, sketch, fault, kinds);
     push_channels::<K>(alloc, messages, sketch, fault, kinds);
 }
@@ -141,7 +147,13 @@ fn push_processes<K: Kinds>(
     ensures { Adds (for_each_below (λ p. told_of K.named K.signature sketch.now fault (Location.Process p)) (length sketch.now.processes)) messages.old messages.new }
 {
     for p in 0..sketch.processes.as_slice().len() {
-        push_place::<K>(alloc, messages, sketch, fault, Location::Process(p), kinds);
+        push_place::<K>(
+            alloc,
+            messages,
+            sketch,
+            (fault, Location::Process(p)),
+            kinds,
+        );
     }
 }
 
@@ -155,7 +167,13 @@ fn push_channels<K: Kinds>(
     ensures { Adds (for_each_below (λ c. told_of K.named K.signature sketch.now fault (Location.Channel c)) (length sketch.now.channels)) messages.old messages.new }
 {
     for c in 0..sketch.channels.as_slice().len() {
-        push_place::<K>(alloc, messages, sketch, fault, Location::Channel(c), kinds);
+        push_place::<K>(
+            alloc,
+            messages,
+            sketch,
+            (fault, Location::Channel(c)),
+            kinds,
+        );
     }
 }
 
@@ -164,16 +182,15 @@ fn push_place<K: Kinds>(
     alloc: Global,
     messages: &mut Messages,
     sketch: &Sketch,
-    fault: NetFault,
-    place: Location,
+    at: (NetFault, Location),
     kinds: &str,
 )
-    ensures { Adds (told_of K.named K.signature sketch.now fault place) messages.old messages.new }
+    ensures { Adds (told_of K.named K.signature sketch.now at.0 at.1) messages.old messages.new }
 {
-    if !is_of::<K>(sketch, fault, place) {
+    if !is_of::<K>(sketch, at.0, at.1) {
         return;
     }
-    push_message::<K>(alloc, messages, sketch, fault, place, kinds);
+    push_message::<K>(alloc, messages, sketch, at, kinds);
 }
 
 /// Adds the message of a fault at a place if there is room; else counts it.
@@ -181,12 +198,12 @@ fn push_message<K: Kinds>(
     alloc: Global,
     messages: &mut Messages,
     sketch: &Sketch,
-    fault: NetFault,
-    place: Location,
+    at: (NetFault, Location),
     kinds: &str,
 )
-    ensures { Adds ((fault, place) ∷ []) messages.old messages.new }
+    ensures { Adds ((at.0, at.1) ∷ []) messages.old messages.new }
 {
+    let (fault, place) = at;
     if is_full(messages) {
         messages.more = messages.more.saturating_add(1);
         return;

@@ -4,6 +4,7 @@ ghost use Rattle.std.specs.List.{flat_map};
 ghost use Rattle.kpn_model.specs.NamesAndLines.{lines_upto};
 ghost use Rattle.kpn_report.specs.Text.{process_line, channel_line, growth_line, token_part, end_text, end_line, stream_line};
 
+use crate::channel_counts::ChannelCounts;
 use kpn_model::{End, Kinds, Place, Token};
 use kpn_network::Net;
 use kpn_network::names::channel_name;
@@ -51,18 +52,18 @@ pub(crate) fn push_processes<K: Kinds>(
     Ok(())
 }
 
-/// Appends the line of a channel: how many tokens were put on it and are left, and its capacity.
+/// Appends the line of a channel from its counts and the number of tokens that are left.
 pub(crate) fn push_channel<K: Kinds>(
     out: &mut String,
     net: &Net<K>,
-    put: usize,
+    counts: ChannelCounts,
     left: usize,
-    capacity: usize,
     c: usize,
 ) -> Result<(), AllocError>
-    ensures { OnOk result (string_bytes out.new ≡ string_bytes out.old ++ channel_line net.now put left capacity c) }
+    ensures { OnOk result (string_bytes out.new ≡ string_bytes out.old ++ channel_line net.now counts.put left counts.capacity c) }
 {
     let name = channel_name(net, c);
+    let (put, capacity) = (counts.put, counts.capacity);
     write!(
         out,
         "channel {name} put {put} left {left} capacity {capacity}\n"

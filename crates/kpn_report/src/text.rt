@@ -2,12 +2,11 @@
 ghost use Rattle.std.specs.Prelude.{◌≡◌, ◌++◌, ◌<◌, ◌^◌, ℕ, true, OnOk, IfOk, codes, decimal, length, string_bytes};
 ghost use Rattle.kpn_model.specs.Network.{Family};
 ghost use Rattle.kpn_model.specs.Semantics.{State, wants};
-ghost use Rattle.kpn_model.specs.History.{each_process, place_of, digest};
-ghost use Rattle.kpn_model.specs.declared.history.End.TheVariants.{Terminated};
+ghost use Rattle.kpn_model.specs.History.{each_process, place_of};
 ghost use Rattle.kpn_report.specs.Tally.{counts_at};
 ghost use Rattle.kpn_report.specs.Counted.{counted_line, counted_text, shown_of};
 ghost use Rattle.kpn_model.specs.NamesAndLines.{lines_upto};
-ghost use Rattle.kpn_report.specs.Text.{digest_text, report_text};
+ghost use Rattle.kpn_report.specs.Text.{report_text};
 ghost use Rattle.kpn_model.specs.Endings.{has_report};
 
 use crate::channel_counts::ChannelCounts;
@@ -35,7 +34,7 @@ fn push_counted<K: Kinds>(
 {
     let counts = channel_counts[c];
     let left = (net.tokens(c).len() + counts.put).saturating_sub(counts.taken);
-    push_channel(out, net, counts.put, left, counts.capacity, c)
+    push_channel(out, net, counts, left, c)
 }
 
 fn push_channels<K: Kinds>(
@@ -97,24 +96,6 @@ fn push_tally<K: Kinds>(
     push_entries(out, entries)
 }
 
-/// Appends all lines but the first.
-fn push_history<K: Kinds, E: Entries>(
-    alloc: Global,
-    out: &mut String,
-    net: &Net<K>,
-    history: &E,
-    places: &[Place],
-    show: Option<usize>,
-) -> Result<(), AllocError>
-    ensures { OnOk result ((kinds : Family) (M : State) → places.now ≡ each_process net.now (λ p. place_of net.now p (wants kinds net.now M p)) → string_bytes out.new ≡ string_bytes out.old ++ digest_text net.now (digest kinds net.now Terminated (E.entries history.now) M) show) }
-{
-    let entries = history.count();
-    let tally = tally_of(alloc, net, history)?;
-    push_tally(out, net, places, &tally, entries)?;
-    push_shown(alloc, out, net, history, show)?;
-    Ok(())
-}
-
 /// Returns the text of the report of a history with this end, with the stream of channel `show` if given. If
 /// the end has a detail, `places` must be the places where the history left the processes.
 ///
@@ -152,6 +133,9 @@ pub fn text_of_entries<K: Kinds, E: Entries>(
     if !has_report(end) {
         return Ok(out);
     }
-    push_history(alloc, &mut out, net, history, places, show)?;
+    let entries = history.count();
+    let tally = tally_of(alloc, net, history)?;
+    push_tally(&mut out, net, places, &tally, entries)?;
+    push_shown(alloc, &mut out, net, history, show)?;
     Ok(out)
 }

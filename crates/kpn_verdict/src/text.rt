@@ -9,6 +9,13 @@ use kpn_network::names::{channel_name, process_name};
 use std::alloc::{AllocError, Global};
 use std::fmt::Write;
 
+/// A network, and where a run left its processes.
+#[derive(Drop)]
+struct Left<'a, K: Kinds> {
+    net: &'a Net<K>,
+    places: &'a [Place],
+}
+
 /// Returns the line of a verdict, like `verdict ran dry`, on a run that left the processes in `places`. A
 /// cycle is in the direction of the tokens: in `verdict cycle ad c2 cp c1`, `cp` waits at `c2` for `ad`, and
 /// `ad` at `c1` for `cp`.
@@ -42,7 +49,7 @@ pub fn push_verdict<K: Kinds>(
     match verdict {
         Verdict::Finished => out.push_str("finished"),
         Verdict::RanDry => out.push_str("ran dry"),
-        Verdict::Cycle(process) => push_cycle(out, net, places, process),
+        Verdict::Cycle(process) => push_cycle(out, &Left { net, places }, process),
         Verdict::Cut => out.push_str("cut"),
         Verdict::Full => out.push_str("full"),
         Verdict::Memory => out.push_str("memory"),
@@ -51,35 +58,33 @@ pub fn push_verdict<K: Kinds>(
 
 fn push_cycle<K: Kinds>(
     out: &mut String,
-    net: &Net<K>,
-    places: &[Place],
+    left: &Left<'_, K>,
     process: usize,
 ) -> Result<(), AllocError>
-    ensures { OnOk result (string_bytes out.new ≡ string_bytes out.old ++ verdict_words net.now places.now (Verdict.Cycle process)) }
+    ensures { OnOk result (string_bytes out.new ≡ string_bytes out.old ++ verdict_words left.now.net.now left.now.places.now (Verdict.Cycle process)) }
 {
     out.push_str("cycle")?;
-    push_circle(out, net, places, net.processes(), process, process)
+    push_circle(out, left, left.net.processes(), process, process)
 }
 
 /// The cycle on which a process waits for `goal`, of at most `most` processes.
 fn push_circle<K: Kinds>(
     out: &mut String,
-    net: &Net<K>,
-    places: &[Place],
+    left: &Left<'_, K>,
     most: usize,
     goal: usize,
     process: usize,
 ) -> Result<(), AllocError>
-    ensures { OnOk result (string_bytes out.new ≡ string_bytes out.old ++ circle_text net.now places.now most goal process) }
+    ensures { OnOk result (string_bytes out.new ≡ string_bytes out.old ++ circle_text left.now.net.now left.now.places.now most goal process) }
 {
     if most == 0 {
         return Ok(());
     }
-    match waits_for(net, places, process) {
-        Some(next) if next == goal => push_wait(out, net, places, next, process),
+    match waits_for(left.net, left.places, process) {
+        Some(next) if next == goal => push_wait(out, left, next, process),
         Some(next) => {
-            push_circle(out, net, places, most - 1, goal, next)?;
-            push_wait(out, net, places, next, process)
+            push_circle(out, left, most - 1, goal, next)?;
+            push_wait(out, left, next, process)
         }
         None => Ok(()),
     }
@@ -87,21 +92,20 @@ fn push_circle<K: Kinds>(
 
 fn push_wait<K: Kinds>(
     out: &mut String,
-    net: &Net<K>,
-    places: &[Place],
+    left: &Left<'_, K>,
     process: usize,
     waiting: usize,
 ) -> Result<(), AllocError>
-    ensures { OnOk result (string_bytes out.new ≡ string_bytes out.old ++ wait_text net.now places.now process waiting) }
+    ensures { OnOk result (string_bytes out.new ≡ string_bytes out.old ++ wait_text left.now.net.now left.now.places.now process waiting) }
 {
-    let name = process_name(net, process);
-    match place_at(places, waiting) {
+    let name = process_name(left.net, process);
+    match place_at(left.places, waiting) {
         Some(Place::Reads(c)) => {
-            let channel = channel_name(net, c);
+            let channel = channel_name(left.net, c);
             write!(out, " {name} {channel}")
         }
         Some(Place::Writes(c)) => {
-            let channel = channel_name(net, c);
+            let channel = channel_name(left.net, c);
             write!(out, " {name} {channel}")
         }
         Some(Place::Stopped) | None => write!(out, " {name}"),

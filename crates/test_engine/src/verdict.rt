@@ -7,16 +7,23 @@ use kpn_verdict::{Verdict, push_verdict, verdict_of, verdict_text};
 use std::alloc::Global;
 use std::process::Abort;
 
-fn judge<R: Abort>(
-    rt: &R,
-    alloc: Global,
-    net: &Net<Standard>,
-    places: &[Place],
+/// Where a run left the processes, and its end.
+#[derive(Clone, Copy)]
+struct Left<'a> {
+    places: &'a [Place],
     end: End,
-    due: &str,
-) {
-    let verdict = verdict_of(net, places, end);
-    let line = verdict_text(alloc, net, places, verdict).expect(rt, "no memory");
+}
+
+fn deadlock(places: &[Place]) -> Left<'_> {
+    Left {
+        places,
+        end: End::Deadlock,
+    }
+}
+
+fn judge<R: Abort>(rt: &R, alloc: Global, net: &Net<Standard>, left: &Left<'_>, due: &str) {
+    let verdict = verdict_of(net, left.places, left.end);
+    let line = verdict_text(alloc, net, left.places, verdict).expect(rt, "no memory");
     same(rt, "line", line.as_str(), due);
 }
 
@@ -25,13 +32,13 @@ fn a_deadlock_is_a_cycle_or_ran_dry(rt: HostRuntime) {
     let alloc = rt.alloc();
     let due = "verdict cycle ad c2 cp c1\n";
     let net = net_of(&rt, alloc, LOOP);
-    judge(&rt, alloc, &net, &LOOP_PLACES, End::Deadlock, due);
+    judge(&rt, alloc, &net, &deadlock(&LOOP_PLACES), due);
     let verdict = verdict_of(&net, &LOOP_PLACES, End::Deadlock);
     same(&rt, "first", verdict, Verdict::Cycle(1));
     let waits = [Place::Stopped, Place::Reads(0)];
     let due = "verdict ran dry\n";
     let counter = net_of(&rt, alloc, COUNTER);
-    judge(&rt, alloc, &counter, &waits, End::Deadlock, due);
+    judge(&rt, alloc, &counter, &deadlock(&waits), due);
     drop(net);
     drop(counter);
 }
@@ -56,7 +63,7 @@ fn a_cycle_is_told_as_tokens_would_flow(rt: HostRuntime) {
     let waits = [Place::Reads(2), Place::Reads(0), Place::Reads(1)];
     let due = "verdict cycle a ab b bd d da\n";
     let net = net_of(&rt, alloc, RING);
-    judge(&rt, alloc, &net, &waits, End::Deadlock, due);
+    judge(&rt, alloc, &net, &deadlock(&waits), due);
     drop(net);
 }
 
@@ -82,7 +89,11 @@ static ENDS: [(End, &str); 4] = [
 fn each_other_end_has_a_verdict(rt: HostRuntime) {
     let net = net_of(&rt, rt.alloc(), COUNTER);
     for (end, due) in &ENDS {
-        judge(&rt, rt.alloc(), &net, &[Place::Stopped; 2], *end, due);
+        let left = Left {
+            places: &[Place::Stopped; 2],
+            end: *end,
+        };
+        judge(&rt, rt.alloc(), &net, &left, due);
     }
     drop(net);
 }

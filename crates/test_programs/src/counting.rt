@@ -102,19 +102,21 @@ static SHOWN: [Shown; 2] = [
     },
 ];
 
+/// Runs the counter, and returns the exit status and what is written.
 fn executed<R: Threads + Wait + Clock + Abort + Sync>(
     rt: &R,
     alloc: Global,
-    row: &Shown,
     workers: usize,
+    channel: &str,
     calls: &Arc<AtomicU64>,
-    out: &mut Vec<u8>,
-) -> u8
+) -> (u8, Vec<u8>)
     requires { (1 ≤ workers) × (workers ≤ 16) }
 {
     let net = network_of(alloc, COUNTER).expect(rt, "no network");
     let bodies = bodies_of(alloc, &net, calls).expect(rt, "no memory");
-    execute(rt, alloc, net, bodies, workers, Some(row.name), out)
+    let mut out = Vec::new(alloc);
+    let status = execute(rt, alloc, net, bodies, workers, Some(channel), &mut out);
+    (status, out)
 }
 
 fn tells_shown<R: Threads + Wait + Clock + Abort + Sync>(
@@ -126,8 +128,7 @@ fn tells_shown<R: Threads + Wait + Clock + Abort + Sync>(
     requires { (1 ≤ workers) × (workers ≤ 16) }
 {
     let count = Arc::new(alloc, AtomicU64::new(0)).expect(rt, "no memory");
-    let mut out = Vec::new(alloc);
-    let status = executed(rt, alloc, row, workers, &count, &mut out);
+    let (status, out) = executed(rt, alloc, workers, row.name, &count);
     let calls = count.load(Ordering::SeqCst);
     same(rt, row.name, (status, calls), (row.status, row.calls));
     same(rt, row.name, out.as_slice(), row.lines.as_bytes());

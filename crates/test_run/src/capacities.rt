@@ -83,6 +83,7 @@ fn shows_woven<R: Threads + Wait + Clock + Abort + Sync>(
     let described = with_capacities(rt, alloc, COPIED_AND_WOVEN, &capacities);
     let lines = woven_lines(rt, alloc, capacities);
     let due = Whole {
+        network: described.as_str(),
         text: lines.as_str(),
         streams: &[
             (0, COUNTED.as_slice()),
@@ -91,17 +92,16 @@ fn shows_woven<R: Threads + Wait + Clock + Abort + Sync>(
             (3, WOVEN.as_slice()),
         ],
     };
-    shows_by_one_and_four(rt, alloc, described.as_str(), due);
+    shows_by_one_and_four(rt, alloc, due);
 }
 
 fn shows_by_one_and_four<R: Threads + Wait + Clock + Abort + Sync>(
     rt: &R,
     alloc: Global,
-    text: &str,
     due: Whole<'_>,
 ) {
     for workers in [1, 4] {
-        shows_whole(rt, alloc, text, workers, &Open, due);
+        shows_whole(rt, alloc, workers, &Open, due);
     }
 }
 
@@ -156,10 +156,11 @@ fn shows_two_full<R: Threads + Wait + Clock + Abort + Sync>(
     let described = with_capacities(rt, alloc, TWO_FULL_CHANNELS, &[first, second]);
     let lines = two_full_lines(rt, alloc, first, second);
     let due = Whole {
+        network: described.as_str(),
         text: lines.as_str(),
         streams: &[(0, COUNTED.as_slice()), (1, COUNTED.as_slice())],
     };
-    shows_by_one_and_four(rt, alloc, described.as_str(), due);
+    shows_by_one_and_four(rt, alloc, due);
 }
 
 /// The sink takes the same ten of Hamming's numbers.

@@ -9,10 +9,16 @@ use kpn_report::{places_of, text_of};
 use kpn_run::{Finish, stream_of};
 use std::alloc::{AllocError, Global};
 use std::process::Abort;
-use test_texts::reports;
+use test_texts::{
+    COPIED_AND_WOVEN, COUNTER_INTO_SINK, COUNTER_INTO_SMALL_SINK, READY_CHAIN, RUNNING_SUMS,
+    TWO_FULL_CHANNELS, reports,
+};
 
+/// How the runs of a network end.
 #[derive(Clone, Copy)]
 pub(crate) struct Due {
+    /// The description of the network.
+    pub(crate) network: &'static str,
     pub(crate) end: End,
     pub(crate) entries: u64,
     pub(crate) processes: usize,
@@ -24,6 +30,7 @@ pub(crate) struct Due {
 }
 
 pub(crate) static COUNTER_ENDS: Due = Due {
+    network: COUNTER_INTO_SINK,
     end: End::Terminated,
     entries: 8,
     processes: 2,
@@ -35,6 +42,7 @@ pub(crate) static COUNTER_ENDS: Due = Due {
 
 /// Parks's case.
 pub(crate) static WOVEN_ENDS: Due = Due {
+    network: COPIED_AND_WOVEN,
     end: End::Deadlock,
     entries: 33,
     processes: 4,
@@ -46,6 +54,7 @@ pub(crate) static WOVEN_ENDS: Due = Due {
 
 /// A chain in which all processes are enabled at first; the start tokens come out in turn.
 pub(crate) static READY_CHAIN_ENDS: Due = Due {
+    network: READY_CHAIN,
     end: End::Deadlock,
     entries: 42,
     processes: 5,
@@ -77,6 +86,7 @@ stream c3 13 12 11 10 1 2 3
 
 /// The channel of capacity one grows once.
 pub(crate) static SMALL_SINK_ENDS: Due = Due {
+    network: COUNTER_INTO_SMALL_SINK,
     end: End::Terminated,
     entries: 7,
     processes: 2,
@@ -88,6 +98,7 @@ pub(crate) static SMALL_SINK_ENDS: Due = Due {
 
 /// The smallest full channel grows first, and among equals the one with the lowest number.
 pub(crate) static TWO_FULL_END: Due = Due {
+    network: TWO_FULL_CHANNELS,
     end: End::Terminated,
     entries: 13,
     processes: 4,
@@ -111,6 +122,7 @@ stream c1 1 2 3
 
 /// The running sums come out; those that come back follow the start token.
 pub(crate) static RUNNING_SUMS_END: Due = Due {
+    network: RUNNING_SUMS,
     end: End::Deadlock,
     entries: 26,
     processes: 4,

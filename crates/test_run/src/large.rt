@@ -71,21 +71,21 @@ fn shows_large<R: Threads + Wait + Clock + Abort + Sync>(
     let text = text_of_rows(rt, alloc, text);
     let lines = text_of_rows(rt, alloc, lines);
     let due = Whole {
+        network: text.as_str(),
         text: lines.as_str(),
         streams: &[stream],
     };
-    shows_by_one_and_sixteen(rt, alloc, text.as_str(), due);
+    shows_by_one_and_sixteen(rt, alloc, due);
 }
 
 fn shows_by_one_and_sixteen<R: Threads + Wait + Clock + Abort + Sync>(
     rt: &R,
     alloc: Global,
-    text: &str,
     due: Whole<'_>,
 ) {
     for workers in [1, 16] {
-        shows_whole(rt, alloc, text, workers, &Open, due);
-        shows_whole(rt, alloc, text, workers, &Prompt, due);
+        shows_whole(rt, alloc, workers, &Open, due);
+        shows_whole(rt, alloc, workers, &Prompt, due);
     }
 }
 

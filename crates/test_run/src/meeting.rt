@@ -5,7 +5,7 @@ ghost use Rattle.kpn_body.specs.StandardKinds.{signature, Admitted};
 
 use crate::checks::same;
 use crate::due::{COUNTER_ENDS, Due, READY_CHAIN_ENDS};
-use crate::networks::network;
+use crate::networks::{Parts, network};
 use crate::runs::{finish_of, run_bodies};
 use kpn_body::{Call, Standard, StandardBody, answer};
 use kpn_net::{Answer, Card, End, Kinds, Local, Net, Token};
@@ -160,7 +160,7 @@ fn meets<R: Threads + Wait + Clock + Abort + Sync>(
     let calls = Arc::new(alloc, Calls::new()).expect(rt, "no memory");
     let net = network(rt, alloc, meeting.text);
     let bodies = meeting_bodies(rt, alloc, &net, meeting, &calls);
-    run_bodies(rt, alloc, net, bodies, meeting.workers, due);
+    run_bodies(rt, alloc, Parts { net, bodies }, meeting.workers, due);
     same(rt, "seen", calls.seen(), 2);
 }
 
@@ -251,7 +251,13 @@ fn a_spare_worker_works_again(rt: HostRuntime) {
     let calls = Arc::new(alloc, Calls::new()).expect(&rt, "no memory");
     let net = network(&rt, alloc, SPARE_MEETS.text);
     let bodies = meeting_bodies(&rt, alloc, &net, SPARE_MEETS, &calls);
-    let finish = finish_of(&rt, alloc, net, bodies, SPARE_MEETS.workers, &Open);
+    let finish = finish_of(
+        &rt,
+        alloc,
+        Parts { net, bodies },
+        SPARE_MEETS.workers,
+        &Open,
+    );
     let found = (finish.end(), finish.history().len(), calls.seen());
     same(&rt, "ended", found, (End::Terminated, 60_002, 12));
     drop(finish);

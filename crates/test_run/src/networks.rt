@@ -2,17 +2,21 @@
 //!
 //! Unlike those of `meeting`, their type contains no closure, so that a test's code can name its monitor.
 use crate::checks::same;
-use kpn_body::Standard;
+use kpn_body::{Body, Standard};
 use kpn_compute::{CardBody, bodies_of};
 use kpn_net::{Check, Net, NetFault, read_sketch};
 use std::alloc::{AllocError, Global};
 use std::process::Abort;
 
+/// A network and its bodies.
 #[derive(Drop)]
-pub(crate) struct Parts {
-    pub(crate) net: Net<Standard>,
-    pub(crate) bodies: Vec<CardBody<Standard>>,
+pub(crate) struct Parts<B: Body> {
+    pub(crate) net: Net<B::Kinds>,
+    pub(crate) bodies: Vec<B>,
 }
+
+/// A network of the standard kinds and its stateless bodies.
+pub(crate) type StandardParts = Parts<CardBody<Standard>>;
 
 fn check_text(alloc: Global, text: &str) -> Result<Net<Standard>, NetFault> {
     let sketch = read_sketch(alloc, text.as_bytes())?;
@@ -43,12 +47,12 @@ pub(crate) fn parts_or_refused<R: Abort>(
     rt: &R,
     alloc: Global,
     text: &str,
-) -> Result<Parts, AllocError> {
+) -> Result<StandardParts, AllocError> {
     let net = net_or_refused(rt, alloc, text)?;
     let bodies = bodies_of(alloc, &net)?;
     Ok(Parts { net, bodies })
 }
 
-pub(crate) fn parts_of<R: Abort>(rt: &R, alloc: Global, text: &str) -> Parts {
+pub(crate) fn parts_of<R: Abort>(rt: &R, alloc: Global, text: &str) -> StandardParts {
     parts_or_refused(rt, alloc, text).expect(rt, "no memory")
 }

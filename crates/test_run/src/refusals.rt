@@ -4,6 +4,7 @@
 //! succeeds.
 use crate::checks::same;
 use crate::due::{Due, RUNNING_SUMS_END, WOVEN_ENDS, compare};
+use crate::networks::Parts;
 use crate::runs::{Refusal, finish_of, handed_back};
 use kpn_body::{Body, Standard};
 use kpn_compute::bodies_of;
@@ -17,7 +18,6 @@ use std::rt::Clock;
 use std::sync::Wait;
 use std::test::Fail;
 use std::thread::Threads;
-use test_texts::{COPIED_AND_WOVEN, RUNNING_SUMS};
 
 /// The allocation that failed, if the test can continue.
 #[derive(Clone, Copy, PartialEq, Eq)]
@@ -67,11 +67,11 @@ fn load_text(alloc: Global, text: &str) -> Result<Net<Standard>, NetFault> {
 fn finish_again<B: Body, R: Threads + Wait + Clock + Abort + Sync>(
     rt: &R,
     alloc: Global,
-    net: Net<B::Kinds>,
-    bodies: Vec<B>,
+    parts: Parts<B>,
     workers: usize,
     due: &Due,
 ) -> (Finish<B::Kinds>, Refused) {
+    let Parts { net, bodies } = parts;
     match run(rt, alloc, net, bodies, workers, &Open) {
         Ok(finish) => (finish, Refused::Nothing),
         Err(fault) => (finish_at_last(rt, alloc, fault, workers, due), Refused::Run),
@@ -85,11 +85,11 @@ fn finish_at_last<B: Body, R: Threads + Wait + Clock + Abort + Sync>(
     workers: usize,
     due: &Due,
 ) -> Finish<B::Kinds> {
-    let (net, bodies, refusal) = handed_back(rt, fault);
-    let found = (refusal, net.processes(), bodies.len());
+    let (parts, refusal) = handed_back(rt, fault);
+    let found = (refusal, parts.net.processes(), parts.bodies.len());
     let all = due.processes;
     same(rt, "refused", found, (Refusal::Memory, all, all));
-    finish_of(rt, alloc, net, bodies, workers, &Open)
+    finish_of(rt, alloc, parts, workers, &Open)
 }
 
 fn report_if_any<K: Kinds>(alloc: Global, finish: &Finish<K>) -> Option<Report> {
@@ -205,13 +205,12 @@ fn tell_stream<K: Kinds, R: Abort>(
 fn run_refused<R: Threads + Wait + Clock + Abort + Sync>(
     rt: &R,
     alloc: Global,
-    text: &str,
     workers: usize,
     due: &Due,
 ) -> Result<Refused, AllocError> {
-    let (net, load) = load_again(rt, alloc, text);
+    let (net, load) = load_again(rt, alloc, due.network);
     let bodies = bodies_of(alloc, &net)?;
-    let (finish, run) = finish_again(rt, alloc, net, bodies, workers, due);
+    let (finish, run) = finish_again(rt, alloc, Parts { net, bodies }, workers, due);
     let told = tell_refused(rt, alloc, &finish, first_refused(&[load, run]), due);
     drop(finish);
     told
@@ -239,28 +238,28 @@ fn told(refused: Result<Refused, AllocError>) -> &'static str {
 
 #[test]
 fn a_run_by_one_worker(rt: HostRuntime) -> Result<(), Fail> {
-    let word = told(run_refused(&rt, rt.alloc(), COPIED_AND_WOVEN, 1, &WOVEN_ENDS));
+    let word = told(run_refused(&rt, rt.alloc(), 1, &WOVEN_ENDS));
     println!(rt; "refused: {word}")?;
     Ok(())
 }
 
 #[test]
 fn a_run_by_two_workers(rt: HostRuntime) -> Result<(), Fail> {
-    let word = told(run_refused(&rt, rt.alloc(), COPIED_AND_WOVEN, 2, &WOVEN_ENDS));
+    let word = told(run_refused(&rt, rt.alloc(), 2, &WOVEN_ENDS));
     println!(rt; "refused: {word}")?;
     Ok(())
 }
 
 #[test]
 fn running_sums_by_one_worker(rt: HostRuntime) -> Result<(), Fail> {
-    let word = told(run_refused(&rt, rt.alloc(), RUNNING_SUMS, 1, &RUNNING_SUMS_END));
+    let word = told(run_refused(&rt, rt.alloc(), 1, &RUNNING_SUMS_END));
     println!(rt; "refused: {word}")?;
     Ok(())
 }
 
 #[test]
 fn running_sums_by_two_workers(rt: HostRuntime) -> Result<(), Fail> {
-    let word = told(run_refused(&rt, rt.alloc(), RUNNING_SUMS, 2, &RUNNING_SUMS_END));
+    let word = told(run_refused(&rt, rt.alloc(), 2, &RUNNING_SUMS_END));
     println!(rt; "refused: {word}")?;
     Ok(())
 }

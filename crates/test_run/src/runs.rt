@@ -6,7 +6,6 @@ use crate::due::{
 use crate::networks::{Parts, parts_of};
 use kpn_body::{Body, Standard};
 use kpn_machine::OpenFault;
-use kpn_net::Net;
 use kpn_run::{Finish, Gate, Open, RunFault, run};
 use std::alloc::Global;
 use std::process::Abort;
@@ -14,9 +13,6 @@ use std::rt::Clock;
 use std::sync::Wait;
 use std::sync::atomic::{AtomicU64, Ordering};
 use std::thread::Threads;
-use test_texts::{
-    COPIED_AND_WOVEN, COUNTER_INTO_SINK, COUNTER_INTO_SMALL_SINK, RUNNING_SUMS, TWO_FULL_CHANNELS,
-};
 
 /// Counts how often the gate is asked: once for each answer.
 #[derive(Drop)]
@@ -38,14 +34,11 @@ pub(crate) enum Refusal {
 }
 
 /// No answer may be lost.
-pub(crate) fn handed_back<B: Body, R: Abort>(
-    rt: &R,
-    fault: RunFault<B>,
-) -> (Net<B::Kinds>, Vec<B>, Refusal) {
+pub(crate) fn handed_back<B: Body, R: Abort>(rt: &R, fault: RunFault<B>) -> (Parts<B>, Refusal) {
     match fault {
-        RunFault::Workers { net, bodies } => (net, bodies, Refusal::Workers),
-        RunFault::Open { net, bodies, fault } => (net, bodies, Refusal::Open(fault)),
-        RunFault::Memory { net, bodies } => (net, bodies, Refusal::Memory),
+        RunFault::Workers { net, bodies } => (Parts { net, bodies }, Refusal::Workers),
+        RunFault::Open { net, bodies, fault } => (Parts { net, bodies }, Refusal::Open(fault)),
+        RunFault::Memory { net, bodies } => (Parts { net, bodies }, Refusal::Memory),
         RunFault::Lost { .. } => panic!(rt; "an answer was lost"),
     }
 }
@@ -53,11 +46,11 @@ pub(crate) fn handed_back<B: Body, R: Abort>(
 pub(crate) fn finish_of<B: Body, R: Threads + Wait + Clock + Abort + Sync, G: Gate>(
     rt: &R,
     alloc: Global,
-    net: Net<B::Kinds>,
-    bodies: Vec<B>,
+    parts: Parts<B>,
     workers: usize,
     gate: &G,
 ) -> Finish<B::Kinds> {
+    let Parts { net, bodies } = parts;
     let Ok(finish) = run(rt, alloc, net, bodies, workers, gate) else {
         panic!(rt; "no run");
     };
@@ -71,19 +64,17 @@ pub(crate) fn finish_text<R: Threads + Wait + Clock + Abort + Sync, G: Gate>(
     workers: usize,
     gate: &G,
 ) -> Finish<Standard> {
-    let Parts { net, bodies } = parts_of(rt, alloc, text);
-    finish_of(rt, alloc, net, bodies, workers, gate)
+    finish_of(rt, alloc, parts_of(rt, alloc, text), workers, gate)
 }
 
 pub(crate) fn shows<R: Threads + Wait + Clock + Abort + Sync, G: Gate>(
     rt: &R,
     alloc: Global,
-    text: &str,
     workers: usize,
     gate: &G,
     due: &Due,
 ) {
-    let finish = finish_text(rt, alloc, text, workers, gate);
+    let finish = finish_text(rt, alloc, due.network, workers, gate);
     compare(rt, alloc, &finish, due).expect(rt, "no memory");
     drop(finish);
 }
@@ -92,33 +83,32 @@ pub(crate) fn shows<R: Threads + Wait + Clock + Abort + Sync, G: Gate>(
 fn refused<B: Body, R: Threads + Wait + Clock + Abort + Sync>(
     rt: &R,
     alloc: Global,
-    net: Net<B::Kinds>,
-    bodies: Vec<B>,
+    parts: Parts<B>,
     workers: usize,
     due: (Refusal, u8),
-) -> (Net<B::Kinds>, Vec<B>) {
+) -> Parts<B> {
+    let Parts { net, bodies } = parts;
     let ran = run(rt, alloc, net, bodies, workers, &Open);
     let Err(fault) = ran else {
         panic!(rt; "not refused");
     };
     let number = fault.number();
-    let (net, bodies, refusal) = handed_back(rt, fault);
+    let (parts, refusal) = handed_back(rt, fault);
     same(rt, "refusal", (refusal, number), due);
-    (net, bodies)
+    parts
 }
 
 fn run_counted<B: Body, R: Threads + Wait + Clock + Abort + Sync>(
     rt: &R,
     alloc: Global,
-    net: Net<B::Kinds>,
-    bodies: Vec<B>,
+    parts: Parts<B>,
     workers: usize,
     due: &Due,
 ) {
     let counts = Counts {
         asked: AtomicU64::new(0),
     };
-    let finish = finish_of(rt, alloc, net, bodies, workers, &counts);
+    let finish = finish_of(rt, alloc, parts, workers, &counts);
     compare_asked(rt, counts.asked.load(Ordering::SeqCst), due);
     compare(rt, alloc, &finish, due).expect(rt, "no memory");
     drop(finish);
@@ -137,32 +127,31 @@ fn compare_asked<R: Abort>(rt: &R, asked: u64, due: &Due) {
 pub(crate) fn run_bodies<B: Body, R: Threads + Wait + Clock + Abort + Sync>(
     rt: &R,
     alloc: Global,
-    net: Net<B::Kinds>,
-    bodies: Vec<B>,
+    parts: Parts<B>,
     workers: usize,
     due: &Due,
 ) {
-    let (net, bodies) = refused(rt, alloc, net, bodies, 0, (Refusal::Workers, 1));
-    let (net, mut bodies) = refused(rt, alloc, net, bodies, 17, (Refusal::Workers, 1));
-    let last = bodies.pop().expect(rt, "no body");
+    let parts = refused(rt, alloc, parts, 0, (Refusal::Workers, 1));
+    let mut parts = refused(rt, alloc, parts, 17, (Refusal::Workers, 1));
+    let last = parts.bodies.pop().expect(rt, "no body");
     let due_refusal = (Refusal::Open(OpenFault::Bodies), 2);
-    let (net, mut bodies) = refused(rt, alloc, net, bodies, workers, due_refusal);
-    same(rt, "pushed", bodies.push(last).is_ok(), true);
-    run_counted(rt, alloc, net, bodies, workers, due);
+    let mut parts = refused(rt, alloc, parts, workers, due_refusal);
+    same(rt, "pushed", parts.bodies.push(last).is_ok(), true);
+    run_counted(rt, alloc, parts, workers, due);
 }
 
 #[test]
 fn any_number_of_workers(rt: HostRuntime) {
-    for (text, due) in [
-        (COUNTER_INTO_SINK, &COUNTER_ENDS),
-        (COPIED_AND_WOVEN, &WOVEN_ENDS),
-        (COUNTER_INTO_SMALL_SINK, &SMALL_SINK_ENDS),
-        (TWO_FULL_CHANNELS, &TWO_FULL_END),
-        (RUNNING_SUMS, &RUNNING_SUMS_END),
+    for due in [
+        &COUNTER_ENDS,
+        &WOVEN_ENDS,
+        &SMALL_SINK_ENDS,
+        &TWO_FULL_END,
+        &RUNNING_SUMS_END,
     ] {
         for workers in [1, 2, 16] {
-            let Parts { net, bodies } = parts_of(&rt, rt.alloc(), text);
-            run_bodies(&rt, rt.alloc(), net, bodies, workers, due);
+            let parts = parts_of(&rt, rt.alloc(), due.network);
+            run_bodies(&rt, rt.alloc(), parts, workers, due);
         }
     }
 }

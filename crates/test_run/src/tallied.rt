@@ -1,6 +1,6 @@
 //! Reports and streams of entries kept in 16 bytes each, counted or not, and of runs by several workers.
 use crate::checks::same;
-use crate::networks::{Parts, parts_of};
+use crate::networks::{Parts, StandardParts, parts_of};
 use kpn_body::{Body, Standard};
 use kpn_compute::CardBody;
 use kpn_machine::{Chronicle, Machine};
@@ -16,7 +16,10 @@ use std::sync::Wait;
 use std::thread::Threads;
 use test_texts::{COPIED_AND_WOVEN, COUNTER, reports};
 
-fn finished(alloc: Global, parts: Parts) -> Result<Chronicle<Standard, Tallied>, AllocError> {
+fn finished(
+    alloc: Global,
+    parts: StandardParts,
+) -> Result<Chronicle<Standard, Tallied>, AllocError> {
     let Parts { net, bodies } = parts;
     let opened = Machine::<CardBody<Standard>, Tallied>::open_with_keeper(alloc, net, bodies);
     let Ok(mut machine) = opened else {
@@ -41,21 +44,41 @@ fn text_of<H: Keeper + Entries>(
     Ok(Some(text))
 }
 
-fn shows<R: Abort>(rt: &R, alloc: Global, text: &str, channel: usize, due: &str) {
-    let chronicle = finished(alloc, parts_of(rt, alloc, text)).expect(rt, "no memory");
-    let told = text_of(alloc, &chronicle, channel).expect(rt, "no memory");
-    same(rt, "text", told.expect(rt, "no end").as_str(), due);
+/// A network, and the report of its runs with the stream of a channel.
+struct Reported {
+    network: &'static str,
+    channel: usize,
+    report: &'static str,
+}
+
+static COUNTER_REPORTED: Reported = Reported {
+    network: COUNTER,
+    channel: 0,
+    report: reports::COUNTER,
+};
+
+/// Parks's case, with a growth.
+static WOVEN_REPORTED: Reported = Reported {
+    network: COPIED_AND_WOVEN,
+    channel: 3,
+    report: reports::WOVEN,
+};
+
+fn shows<R: Abort>(rt: &R, alloc: Global, due: &Reported) {
+    let chronicle = finished(alloc, parts_of(rt, alloc, due.network)).expect(rt, "no memory");
+    let told = text_of(alloc, &chronicle, due.channel).expect(rt, "no memory");
+    same(rt, "text", told.expect(rt, "no end").as_str(), due.report);
     drop(chronicle);
 }
 
 #[test]
 fn counted_entries_have_their_report(rt: HostRuntime) {
-    shows(&rt, rt.alloc(), COUNTER, 0, reports::COUNTER);
+    shows(&rt, rt.alloc(), &COUNTER_REPORTED);
 }
 
 #[test]
 fn counted_entries_with_a_growth_have_their_report(rt: HostRuntime) {
-    shows(&rt, rt.alloc(), COPIED_AND_WOVEN, 3, reports::WOVEN);
+    shows(&rt, rt.alloc(), &WOVEN_REPORTED);
 }
 
 fn entries_of<B: Body>(
@@ -97,7 +120,7 @@ fn say_told(
 fn tell_by_two<R: Wait + Clock + Threads + Sync>(
     rt: &R,
     alloc: Global,
-    parts: Parts,
+    parts: StandardParts,
     channel: usize,
     sink: &mut String,
 ) -> Result<(), AllocError> {
@@ -120,37 +143,35 @@ fn entries_of_two_workers_have_their_report(rt: HostRuntime) {
 fn shows_by<H: Keeper + Entries + Send, R: Wait + Clock + Threads + Sync + Abort>(
     rt: &R,
     alloc: Global,
-    text: &str,
     workers: usize,
-    channel: usize,
-    due: &str,
+    due: &Reported,
 ) {
-    let Parts { net, bodies } = parts_of(rt, alloc, text);
+    let Parts { net, bodies } = parts_of(rt, alloc, due.network);
     let ran = run_with_keeper::<CardBody<Standard>, H, R, Open>(
         rt, alloc, net, bodies, workers, &Open,
     );
     let Ok(finish) = ran else {
         panic!(rt; "no run");
     };
-    let told = text_of(alloc, finish.chronicle(), channel).expect(rt, "no memory");
-    same(rt, "text", told.expect(rt, "no end").as_str(), due);
+    let told = text_of(alloc, finish.chronicle(), due.channel).expect(rt, "no memory");
+    same(rt, "text", told.expect(rt, "no end").as_str(), due.report);
     drop(finish);
 }
 
 #[test]
 fn counted_entries_of_workers_have_their_report(rt: HostRuntime) {
     for workers in [2, 16] {
-        shows_by::<Tallied, _>(&rt, rt.alloc(), COUNTER, workers, 0, reports::COUNTER);
+        shows_by::<Tallied, _>(&rt, rt.alloc(), workers, &COUNTER_REPORTED);
     }
-    shows_by::<Tallied, _>(&rt, rt.alloc(), COPIED_AND_WOVEN, 2, 3, reports::WOVEN);
+    shows_by::<Tallied, _>(&rt, rt.alloc(), 2, &WOVEN_REPORTED);
 }
 
 #[test]
 fn packed_entries_of_workers_have_their_report(rt: HostRuntime) {
     for workers in [2, 16] {
-        shows_by::<Packed, _>(&rt, rt.alloc(), COUNTER, workers, 0, reports::COUNTER);
+        shows_by::<Packed, _>(&rt, rt.alloc(), workers, &COUNTER_REPORTED);
     }
-    shows_by::<Packed, _>(&rt, rt.alloc(), COPIED_AND_WOVEN, 2, 3, reports::WOVEN);
+    shows_by::<Packed, _>(&rt, rt.alloc(), 2, &WOVEN_REPORTED);
 }
 
 #[test]

@@ -16,6 +16,8 @@ use std::thread::Threads;
 /// The whole expected result of a run, whatever the schedule.
 #[derive(Clone, Copy)]
 pub(crate) struct Whole<'a> {
+    /// The description of the network.
+    pub(crate) network: &'a str,
     /// The report, without a stream.
     pub(crate) text: &'a str,
     pub(crate) streams: &'a [(usize, &'a [Token])],
@@ -24,12 +26,11 @@ pub(crate) struct Whole<'a> {
 pub(crate) fn shows_whole<R: Threads + Wait + Clock + Abort + Sync, G: Gate>(
     rt: &R,
     alloc: Global,
-    text: &str,
     workers: usize,
     gate: &G,
     due: Whole<'_>,
 ) {
-    let finish = finish_text(rt, alloc, text, workers, gate);
+    let finish = finish_text(rt, alloc, due.network, workers, gate);
     compare_whole(rt, alloc, &finish, due);
     drop(finish);
 }

@@ -4,7 +4,7 @@ use crate::numbers::burn;
 use kpn_body::{Body, Standard, answer};
 use kpn_machine::Machine;
 use kpn_net::{Answer, Card, Kinds, Local, Net, Token};
-use kpn_run::{Gate, Open, Prompt, run};
+use kpn_run::{Finish, Open, Prompt, RunFault, run};
 use std::alloc::{AllocError, Global};
 use std::hint::spin_loop;
 use std::marker::Model;
@@ -106,22 +106,13 @@ fn entries_of<R: Threads + Wait + Clock + Sync>(
 ) -> Result<u64, AllocError> {
     match (asked.workers, asked.gate) {
         (0, _) => entries_alone(alloc, net, bodies),
-        (workers, GateChoice::Open) => entries_by_workers(rt, alloc, net, bodies, workers, &Open),
-        (workers, GateChoice::Prompt) => {
-            entries_by_workers(rt, alloc, net, bodies, workers, &Prompt)
-        }
+        (workers, GateChoice::Open) => entries_in(run(rt, alloc, net, bodies, workers, &Open)),
+        (workers, GateChoice::Prompt) => entries_in(run(rt, alloc, net, bodies, workers, &Prompt)),
     }
 }
 
-fn entries_by_workers<R: Threads + Wait + Clock + Sync, G: Gate>(
-    rt: &R,
-    alloc: Global,
-    net: Net<Standard>,
-    bodies: Vec<Burning>,
-    workers: usize,
-    gate: &G,
-) -> Result<u64, AllocError> {
-    match run(rt, alloc, net, bodies, workers, gate) {
+fn entries_in<B: Body>(ran: Result<Finish<B::Kinds>, RunFault<B>>) -> Result<u64, AllocError> {
+    match ran {
         Ok(finish) => Ok(finish.receipts()),
         Err(_) => Err(AllocError),
     }

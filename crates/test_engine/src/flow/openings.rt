@@ -19,19 +19,20 @@ fn assert_handed_back<R: Abort>(
     same(rt, "bodies", refused.bodies.len(), bodies);
 }
 
-fn refuse<R: Abort>(
-    rt: &R,
-    alloc: Global,
-    parts: Parts,
-    inputs: &[usize],
-    outputs: &[usize],
+/// The channels to feed and to drain, for which a flow is not opened, and the fault.
+#[derive(Clone, Copy)]
+struct Refusal {
+    inputs: &'static [usize],
+    outputs: &'static [usize],
     fault: FlowFault,
-) {
+}
+
+fn refuse<R: Abort>(rt: &R, alloc: Global, parts: Parts, due: &Refusal) {
     let bodies = parts.bodies.len();
-    match Flow::open(alloc, parts.net, parts.bodies, inputs, outputs) {
+    match Flow::open(alloc, parts.net, parts.bodies, due.inputs, due.outputs) {
         Ok(_) => panic!(rt; "opened in spite of a fault"),
         Err(refused) => {
-            assert_handed_back(rt, &refused, fault, bodies);
+            assert_handed_back(rt, &refused, due.fault, bodies);
             drop(refused);
         }
     }
@@ -55,8 +56,12 @@ static FAULTS: [(&[usize], &[usize], FlowFault); 8] = [
 #[test]
 fn inputs_and_outputs_are_checked(rt: HostRuntime) {
     for (inputs, outputs, fault) in &FAULTS {
-        let parts = fresh(&rt, rt.alloc());
-        refuse(&rt, rt.alloc(), parts, inputs, outputs, *fault);
+        let due = Refusal {
+            inputs,
+            outputs,
+            fault: *fault,
+        };
+        refuse(&rt, rt.alloc(), fresh(&rt, rt.alloc()), &due);
     }
 }
 
@@ -78,8 +83,17 @@ fn a_process_of_no_tokens_stops_at_once(rt: HostRuntime) {
 fn bodies_are_checked_first(rt: HostRuntime) {
     let mut few = fresh(&rt, rt.alloc());
     few.bodies.pop();
-    refuse(&rt, rt.alloc(), few, &[2], &[], FlowFault::Bodies);
+    let no_body = Refusal {
+        inputs: &[2],
+        outputs: &[],
+        fault: FlowFault::Bodies,
+    };
+    refuse(&rt, rt.alloc(), few, &no_body);
     let mut turned = fresh(&rt, rt.alloc());
     turned.bodies.reverse();
-    refuse(&rt, rt.alloc(), turned, &[2], &[], FlowFault::Card);
+    let another_card = Refusal {
+        fault: FlowFault::Card,
+        ..no_body
+    };
+    refuse(&rt, rt.alloc(), turned, &another_card);
 }

@@ -183,22 +183,21 @@ fn samples(width: Width, endian: Endian, clips: bool) -> Layout {
     }))
 }
 
-/// Streams samples of two bytes, the low one first, through the sums, and compares what was written, what was
-/// counted and why it ended.
-fn sampled<R: Abort>(
-    rt: &R,
-    alloc: Global,
-    bytes: &[u8],
-    to: Layout,
-    written: &[u8],
+/// What is written when samples stream through the sums, what is counted, and why it ends.
+#[derive(Clone, Copy)]
+struct Sampled<'a> {
+    written: &'a [u8],
     counts: (u64, u64, u64),
-    due: StreamFinish,
-) {
+    finish: StreamFinish,
+}
+
+/// Streams samples of two bytes, the low one first, through the sums.
+fn sampled<R: Abort>(rt: &R, alloc: Global, bytes: &[u8], to: Layout, due: &Sampled<'_>) {
     let from = samples(Width::Two, Endian::Little, false);
     let mut served = served_of(rt, alloc, bytes, from, to);
-    same(rt, "finish", served.finish, due);
-    same(rt, "counts", counted(rt, &served), counts);
-    wrote(rt, &mut served.outlets, written);
+    same(rt, "finish", served.finish, due.finish);
+    same(rt, "counts", counted(rt, &served), due.counts);
+    wrote(rt, &mut served.outlets, due.written);
     drop(served);
 }
 
@@ -210,37 +209,32 @@ fn sums_come_of_samples(rt: HostRuntime) {
     let alloc = rt.alloc();
     let over = StreamFinish::Over(End::Deadlock);
     let big = samples(Width::Two, Endian::Big, false);
-    sampled(
-        &rt,
-        alloc,
-        SAMPLES,
-        big,
-        &[0, 3, 0, 2, 1, 0x2B],
-        (3, 3, 0),
-        over,
-    );
-    let clipped = samples(Width::One, Endian::Little, true);
-    sampled(&rt, alloc, SAMPLES, clipped, &[3, 2, 127], (3, 3, 1), over);
+    let whole = Sampled {
+        written: &[0, 3, 0, 2, 1, 0x2B],
+        counts: (3, 3, 0),
+        finish: over,
+    };
+    sampled(&rt, alloc, SAMPLES, big, &whole);
+    let clipped = Sampled {
+        written: &[3, 2, 127],
+        counts: (3, 3, 1),
+        finish: over,
+    };
+    let to_one_byte = samples(Width::One, Endian::Little, true);
+    sampled(&rt, alloc, SAMPLES, to_one_byte, &clipped);
+    let misfit = Sampled {
+        written: &[3, 2],
+        counts: (3, 2, 0),
+        finish: StreamFinish::Misfit(0),
+    };
     let narrow = samples(Width::One, Endian::Little, false);
-    sampled(
-        &rt,
-        alloc,
-        SAMPLES,
-        narrow,
-        &[3, 2],
-        (3, 2, 0),
-        StreamFinish::Misfit(0),
-    );
-    let short = StreamFinish::Refused(0, Refusal::Fault(RecordFault::CutShort));
-    sampled(
-        &rt,
-        alloc,
-        &SAMPLES[..5],
-        big,
-        &[0, 3, 0, 2],
-        (2, 2, 0),
-        short,
-    );
+    sampled(&rt, alloc, SAMPLES, narrow, &misfit);
+    let cut_short = Sampled {
+        written: &[0, 3, 0, 2],
+        counts: (2, 2, 0),
+        finish: StreamFinish::Refused(0, Refusal::Fault(RecordFault::CutShort)),
+    };
+    sampled(&rt, alloc, &SAMPLES[..5], big, &cut_short);
     same(
         &rt,
         "status",

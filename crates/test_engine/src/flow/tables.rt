@@ -47,14 +47,20 @@ fn table_of<R: Abort>(rt: &R, alloc: Global, table: Table, width: usize) -> Laid
     }
 }
 
-/// Streams words through `PAIRS`: the first `sinks` drained channels have a sink each, the others one table.
+/// What goes out: of the drained channels the first `sinks` have a sink each, the others one table.
+#[derive(Clone, Copy)]
+struct Drained<'a> {
+    channels: [&'a str; 2],
+    sinks: usize,
+    table: Table,
+}
+
+/// Streams words through `PAIRS`.
 fn paired<'a, R: Abort>(
     rt: &R,
     alloc: Global,
     bytes: &'a [u8],
-    drained: &[Text],
-    sinks: usize,
-    table: Table,
+    drained: Drained<'_>,
 ) -> EndedStream<Kinds, &'a [u8], Vec<u8>> {
     let mut sources = Vec::new(alloc);
     let source = LaidOut {
@@ -63,7 +69,7 @@ fn paired<'a, R: Abort>(
     };
     sources.push(source).expect(rt, "no memory");
     let mut outlets = Vec::new(alloc);
-    for _ in 0..sinks {
+    for _ in 0..drained.sinks {
         let sink = LaidOut {
             stream: Vec::new(alloc),
             layout: Layout::PLAIN,
@@ -71,12 +77,15 @@ fn paired<'a, R: Abort>(
         outlets.push(sink).expect(rt, "no memory");
     }
     let mut tables = Vec::new(alloc);
-    let width = drained.len().saturating_sub(sinks);
+    let width = drained.channels.len().saturating_sub(drained.sinks);
     tables
-        .push(table_of(rt, alloc, table, width))
+        .push(table_of(rt, alloc, drained.table, width))
         .expect(rt, "no memory");
     let sketch = read_sketch(alloc, PAIRS.as_bytes()).expect(rt, "no sketch");
-    let stream = open_stream::<Standard>(alloc, sketch, &[name(rt, alloc, "x")], drained);
+    let fed = [name(rt, alloc, "x")];
+    let [first, second] = drained.channels;
+    let names = [name(rt, alloc, first), name(rt, alloc, second)];
+    let stream = open_stream::<Standard>(alloc, sketch, &fed, &names);
     let stream = stream.ok().expect(rt, "no stream");
     let ends = LaidEnds {
         sources,
@@ -95,6 +104,15 @@ fn counted(table: &TableOutlet<Vec<u8>>, place: usize) -> Option<(u64, u64)> {
     }
 }
 
+/// Two channels as the rows of one table.
+fn rows<'a>(channels: [&'a str; 2], separator: Separator) -> Drained<'a> {
+    Drained {
+        channels,
+        sinks: 0,
+        table: Table::Rows(separator),
+    }
+}
+
 fn written<R: Abort>(rt: &R, tables: &mut Vec<TableOutlet<Vec<u8>>>) -> Vec<u8> {
     tables.pop().expect(rt, "no table").into_sink()
 }
@@ -102,9 +120,8 @@ fn written<R: Abort>(rt: &R, tables: &mut Vec<TableOutlet<Vec<u8>>>) -> Vec<u8> 
 #[test]
 fn rows_hold_a_word_of_each_channel(rt: HostRuntime) {
     let alloc = rt.alloc();
-    let drained = [name(&rt, alloc, "y"), name(&rt, alloc, "z")];
-    let comma = Table::Rows(Separator::Comma);
-    let mut served = paired(&rt, alloc, b"3\n4\n5\n", &drained, 0, comma);
+    let drained = rows(["y", "z"], Separator::Comma);
+    let mut served = paired(&rt, alloc, b"3\n4\n5\n", drained);
     same(
         &rt,
         "finish",
@@ -127,9 +144,8 @@ fn rows_hold_a_word_of_each_channel(rt: HostRuntime) {
 #[test]
 fn columns_stand_in_the_order_of_their_names(rt: HostRuntime) {
     let alloc = rt.alloc();
-    let drained = [name(&rt, alloc, "z"), name(&rt, alloc, "y")];
-    let tab = Table::Rows(Separator::Tab);
-    let mut served = paired(&rt, alloc, b"3\n4\n", &drained, 0, tab);
+    let drained = rows(["z", "y"], Separator::Tab);
+    let mut served = paired(&rt, alloc, b"3\n4\n", drained);
     let text = written(&rt, &mut served.tables);
     same(
         &rt,
@@ -143,9 +159,11 @@ fn columns_stand_in_the_order_of_their_names(rt: HostRuntime) {
 #[test]
 fn a_table_stands_behind_the_sinks(rt: HostRuntime) {
     let alloc = rt.alloc();
-    let drained = [name(&rt, alloc, "y"), name(&rt, alloc, "z")];
-    let comma = Table::Rows(Separator::Comma);
-    let mut served = paired(&rt, alloc, b"3\n4\n", &drained, 1, comma);
+    let drained = Drained {
+        sinks: 1,
+        ..rows(["y", "z"], Separator::Comma)
+    };
+    let mut served = paired(&rt, alloc, b"3\n4\n", drained);
     let text = written(&rt, &mut served.tables);
     same(&rt, "one column", text.as_slice(), b"9\n3\n4\n".as_slice());
     let sink = served.outlets.pop().expect(&rt, "no sink").into_sink();
@@ -153,39 +171,29 @@ fn a_table_stands_behind_the_sinks(rt: HostRuntime) {
     drop(served);
 }
 
-fn samples(width: Width, clips: bool) -> Table {
-    Table::Samples(Sample {
-        width,
-        coding: Coding::Signed,
-        endian: Endian::Little,
-        clips,
-    })
+/// The channels y and z as samples of one table.
+fn samples(width: Width, clips: bool) -> Drained<'static> {
+    Drained {
+        channels: ["y", "z"],
+        sinks: 0,
+        table: Table::Samples(Sample {
+            width,
+            coding: Coding::Signed,
+            endian: Endian::Little,
+            clips,
+        }),
+    }
 }
 
 #[test]
 fn frames_hold_a_sample_of_each_channel(rt: HostRuntime) {
     let alloc = rt.alloc();
-    let drained = [name(&rt, alloc, "y"), name(&rt, alloc, "z")];
-    let mut served = paired(
-        &rt,
-        alloc,
-        b"3\n-2\n",
-        &drained,
-        0,
-        samples(Width::Two, false),
-    );
+    let mut served = paired(&rt, alloc, b"3\n-2\n", samples(Width::Two, false));
     let text = written(&rt, &mut served.tables);
     let due: &[u8] = &[3, 0, 9, 0, 0xFE, 0xFF, 3, 0, 0, 0, 0xFE, 0xFF];
     same(&rt, "frames", text.as_slice(), due);
     drop(served);
-    let mut served = paired(
-        &rt,
-        alloc,
-        b"3\n300\n",
-        &drained,
-        0,
-        samples(Width::One, true),
-    );
+    let mut served = paired(&rt, alloc, b"3\n300\n", samples(Width::One, true));
     let table = served.tables.as_slice().first().expect(&rt, "no table");
     same(&rt, "first column", counted(table, 0), Some((2, 1)));
     same(&rt, "second column", counted(table, 1), Some((3, 1)));
@@ -202,15 +210,7 @@ fn frames_hold_a_sample_of_each_channel(rt: HostRuntime) {
 #[test]
 fn a_word_does_not_fit_a_column(rt: HostRuntime) {
     let alloc = rt.alloc();
-    let drained = [name(&rt, alloc, "y"), name(&rt, alloc, "z")];
-    let mut served = paired(
-        &rt,
-        alloc,
-        b"3\n300\n4\n",
-        &drained,
-        0,
-        samples(Width::One, false),
-    );
+    let mut served = paired(&rt, alloc, b"3\n300\n4\n", samples(Width::One, false));
     same(&rt, "finish", served.finish, StreamFinish::Misfit(0));
     let text = written(&rt, &mut served.tables);
     same(&rt, "before it", text.as_slice(), [3, 9, 0, 3].as_slice());
