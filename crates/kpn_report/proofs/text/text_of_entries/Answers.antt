@@ -2,6 +2,7 @@
 use Rattle.std.proofs.Common.{◌≡◌, ◌∙◌, true, false, sym, rules, arith}
 use Rattle.std.proofs.lemmas.Bool.{true≢false, false≢true}
 use Rattle.kpn_model.specs.Endings.{has_report}
+use Rattle.kpn_report.specs.Text.{end_line}
 use Rattle.kpn_report.proofs.Tables.{listed}
 use Rattle.kpn_report.proofs.Tallies.{few_put}
 use Rattle.kpn_report.proofs.Counts.{pushed, counted_all, text_is}
@@ -23,5 +24,4 @@ returns g c = λ kinds M places.
     let tally = c.in_ok-tally.tally in
     let kept = c.in_ok-tally.ensures in
     let all = counted_all kinds c.args.net.now (g.E.Entries.entries c.args.history.now) M tally.channel_counts.items kept.channel_counts c.args.places.now tally.steps.items tally.growths.items c.args.show (places yes) (listed 0 _ _ _ kept.steps) kept.growths in
-    let lines = pushed _ _ _ _ _ _ (rw c.count-entries.ensures.count at c.in_ok-push_tally.ensures) c.in_ok-push_shown.ensures all in
-    text_is kinds c.args.net.now (g.E.Entries.entries c.args.history.now) M _ c.args.show c.args.end (λ has. rw (lines, c.in_ok-out.ensures)) (λ none. absurd (true≢false (sym yes ∙ none)))
+    text_is kinds c.args.net.now (g.E.Entries.entries c.args.history.now) M _ c.args.show c.args.end (λ has. pushed (end_line c.args.end) _ _ _ _ _ (rw (c.count-entries.ensures.count, c.in_ok-out.ensures) at c.in_ok-push_tally.ensures) c.in_ok-push_shown.ensures all) (λ none. absurd (true≢false (sym yes ∙ none)))
