@@ -5,14 +5,18 @@ use Rattle.kpn_model.specs.declared.token.Token.{Token}
 use Rattle.kpn_model.specs.declared.kinds.Card.{Card}
 use Rattle.kpn_model.specs.declared.kinds.Answer.{Answer}
 use Rattle.kpn_model.specs.Network.{Family, Network}
-use Rattle.kpn_model.specs.Semantics.{wants}
+use Rattle.kpn_model.specs.declared.history.Deed.{Deed}
+use Rattle.kpn_model.specs.declared.history.Entry.TheVariants.{Did}
+use Rattle.kpn_model.specs.Semantics.{wants, IsDeed, after_deed}
+use Rattle.kpn_state.specs.StateAndHistory.{more}
 use Rattle.kpn_state.specs.declared.standing.Standing.{Standing}
-use Rattle.kpn_state.specs.declared.standing.Standing.TheVariants.{Ready, Out}
-use Rattle.kpn_state.specs.Standings.{standing, is_busy}
+use Rattle.kpn_state.specs.declared.standing.Standing.TheVariants.{Ready, Out, Parked}
+use Rattle.kpn_state.specs.Standings.{standing, is_busy, standing_after, StandingsFit, partner}
 use Rattle.kpn_commit.specs.declared.cores.Core.{Core}
 use Rattle.kpn_commit.specs.declared.react.Reaction.{Reaction}
 use Rattle.kpn_commit.specs.declared.resolution.Resolution.{Resolution}
 use Rattle.kpn_commit.specs.Coherent.{IsCoherent}
+use Rattle.kpn_commit.specs.Waiting.{AreWaiting}
 use Rattle.kpn_commit.specs.Reactions.{Reacts}
 use Rattle.kpn_commit.specs.Resolving.{Resolves}
 
@@ -28,6 +32,17 @@ pub record HasAnswered {H : Type 0} (kinds : Family) (admits : Card → List ℕ
 pub record ReactsTo {H : Type 0} (kinds : Family) (admits : Card → List ℕ → Option Token → Type 0) (net : Network) (core : Core H) (p : ℕ) (a : Answer) (reaction : Reaction) (moved : Core H) : Type 0 where
   pub reacts : Reacts kinds net core.store core.standings p a reaction moved.store moved.standings
   pub coherent : IsCoherent kinds admits net moved
+
+-- p, which was parked, does what it answered, and waits no more
+pub record Resumes {H : Type 0} (kinds : Family) (admits : Card → List ℕ → Option Token → Type 0) (net : Network) (core : Core H) (p : ℕ) (moved : Core H) : Type 0 where
+  pub wanted : Answer
+  pub parked : standing core.standings p ≡ Parked wanted
+  pub deed : Deed
+  pub is_deed : IsDeed kinds net core.store.state p wanted.act deed
+  pub entry : moved.store ≡ more core.store (after_deed kinds net core.store.state p wanted.next deed) (Did p deed)
+  pub moves : moved.standings ≡ set core.standings p (standing_after deed)
+  pub keeps : StandingsFit kinds admits net (partner net deed) moved.store.state moved.standings
+  pub waiting : AreWaiting net moved.store.state moved.standings moved.waiting
 
 abbrev pub made_ready : {H : Type 0} → Core H → ℕ → Core H
 made_ready core p = record core { standings = set core.standings p Ready }

@@ -57,16 +57,6 @@ pub record Acted (kinds : Family) (net : Network) (s : StateAndHistory) (standin
   pub entry : t ≡ more s t.state (Did p d)
   pub moves : moved ≡ set standings p (standing_after d)
 
--- p, which was parked, does what it answered
-pub record Resumes (kinds : Family) (admits : Card → List ℕ → Option Token → Type 0) (net : Network) (s : StateAndHistory) (standings : List Standing) (p : ℕ) (t : StateAndHistory) (moved : List Standing) : Type 0 where
-  pub wanted : Answer
-  pub parked : standing standings p ≡ Parked wanted
-  pub deed : Deed
-  pub is_deed : IsDeed kinds net s.state p wanted.act deed
-  pub entry : t ≡ more s (after_deed kinds net s.state p wanted.next deed) (Did p deed)
-  pub moves : moved ≡ set standings p (standing_after deed)
-  pub keeps : StandingsFit kinds admits net (partner net deed) t.state moved
-
 -- p does what it wants, then the parked process at the other end of the channel does
 pub record Handed (kinds : Family) (net : Network) (s : StateAndHistory) (standings : List Standing) (p : ℕ) (t : StateAndHistory) (moved : List Standing) : Type 0 where
   pub deed : Deed

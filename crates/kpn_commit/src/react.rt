@@ -7,9 +7,9 @@ ghost use Rattle.kpn_model.specs.declared.kinds.Act.TheVariants.{Stop};
 ghost use Rattle.kpn_state.specs.declared.standing.Standing.TheVariants.{Parked, Ready};
 ghost use Rattle.kpn_state.specs.Standings.{standing, is_busy, partner, HasChannel};
 ghost use Rattle.kpn_commit.specs.Coherent.{IsCoherent, IsCoherentBut};
-ghost use Rattle.kpn_commit.specs.Waiting.{AreWaiting, HasMark, partner_marked};
-ghost use Rattle.kpn_commit.specs.Reactions.{Reacts, Resumes, CannotGoOn};
-ghost use Rattle.kpn_commit.specs.Answering.{HasAnswered, ReactsTo, KeepsStanding, made_ready};
+ghost use Rattle.kpn_commit.specs.Waiting.{HasMark, partner_marked};
+ghost use Rattle.kpn_commit.specs.Reactions.{Reacts, CannotGoOn};
+ghost use Rattle.kpn_commit.specs.Answering.{HasAnswered, ReactsTo, KeepsStanding, Resumes, made_ready};
 ghost use Rattle.kpn_commit.specs.declared.react.Reaction.{Reaction as ReactionV};
 
 use crate::act::{advance, advance_on};
@@ -180,10 +180,9 @@ fn park_or_stop<K: Kinds, H: Keeper>(
 fn resume<K: Kinds, H: Keeper>(net: &Net<K>, core: &mut Core<H>, process: usize) -> bool
     requires coherent { IsCoherentBut (family K.Kinds) K.admits net.now (Some process) core.old }
     requires room { length core.old.store.history < core.old.store.limit }
-    ensures resumes { IsTrue result → Resumes (family K.Kinds) K.admits net.now core.old.store core.old.standings process core.new.store core.new.standings }
+    ensures resumes { IsTrue result → Resumes (family K.Kinds) K.admits net.now core.old process core.new }
     ensures cannot { result ≡ false → (a : AnswerV) → standing core.old.standings process ≡ Parked a → IsPossible (family K.Kinds) net.now core.old.store.state process a.act → ⊥ }
     ensures same { result ≡ false → core.new ≡ core.old }
-    ensures waiting { AreWaiting net.now core.new.store.state core.new.standings core.new.waiting }
 {
     let Some(wanted) = parked(core.standings.as_slice(), process) else {
         return false;

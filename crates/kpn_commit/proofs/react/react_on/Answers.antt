@@ -68,7 +68,7 @@ returns-then-resume-clause-reacts g c =
             keeps =
                 keeps_handed c.requires.coherent.keeps p c.args.answer c.in_ok-deed.deed other r.wanted r.deed (keeps_still r.keeps p Ready (rw r.moves there) (rw r.moves busy) refl) c.requires.process did.is_deed
                 (rw did.ready (standing_set_other l p other Ready ne ∙ r.parked)) (rw did.entry at r.is_deed) (rw (did.ready, r.moves) (swapped l p other (standing_after r.deed) ne));
-            waiting = busy_waiting c.if-resume.ensures.waiting p Ready (rw r.moves there) (rw r.moves busy) refl;
+            waiting = busy_waiting r.waiting p Ready (rw r.moves there) (rw r.moves busy) refl;
           };
     }
 
@@ -98,7 +98,7 @@ returns-else-resume-clause-reacts g c =
                 (λ q a e at can.
                 let is : q ≡ c.in-Some.other = cc (c.in-Some.ensures) in
                 c.if-resume.ensures.cannot refl a (rw is at (still_parked c.args.core.now.standings c.args.process c.in_ok-deed.deed a c.requires.process q at).1) (rw is at can)));
-            waiting = busy_waiting c.if-resume.ensures.waiting c.args.process Ready (rw (c.if-resume.ensures.same refl) c.requires.process) (rw (c.if-resume.ensures.same refl) c.requires.busy) refl;
+            waiting = rw (c.if-resume.ensures.same refl, c.in_ok-deed.ensures.acts.entry, ← c.in_ok-deed.ensures.acts.ready) (acted_waiting (family_of g.K.Kinds.start g.K.Kinds.answer_of) c.requires.coherent.waiting c.args.process c.args.answer.next c.in_ok-deed.deed c.requires.process c.requires.busy);
           };
     }
 

@@ -31,7 +31,7 @@ returns-then-resume g c =
             keeps =
                 keeps_handed c.requires.coherent.keeps c.args.process c.args.answer c.in-Some.deed c.in-Some-partner.other r.wanted r.deed r.keeps c.requires.process did.is_deed
                 (rw did.standing at r.parked) (rw did.entry at r.is_deed) (rw did.standing at r.moves);
-            waiting = c.if-resume.ensures.waiting;
+            waiting = r.waiting;
           };
     }
 
@@ -50,7 +50,7 @@ returns-else-resume g c =
                 (λ q a e at can.
                 let is : q ≡ c.in-Some-partner.other = cc (c.in-Some-partner.ensures) in
                 c.if-resume.ensures.cannot refl a (rw is at at) (rw is at can)));
-            waiting = c.if-resume.ensures.waiting;
+            waiting = rw (c.if-resume.ensures.same refl, c.in-Some.ensures.entry, c.in-Some.ensures.standing) (acted_waiting (family_of g.K.Kinds.start g.K.Kinds.answer_of) c.requires.coherent.waiting c.args.process c.args.answer.next c.in-Some.deed c.requires.process c.requires.busy);
           };
     }
 
