@@ -168,7 +168,11 @@ impl Roster {
         match self.standings[process] {
             Standing::Ready => self.update_ready(process, next),
             Standing::Out | Standing::Parked(_) | Standing::Stopped => {
-                self.update_unready(process, next)
+                let before = self.standings[process];
+                self.out = self.out - out_weight(&before) + out_weight(&next);
+                self.live = self.live + stopped_weight(&before) - stopped_weight(&next);
+                enqueue(&mut self.queue, process, &next);
+                self.standings[process] = next;
             }
         }
     }
@@ -188,19 +192,6 @@ impl Roster {
                 self.standings[process] = next;
             }
         }
-    }
-
-    #[inline(always)]
-    fn update_unready(&mut self, process: usize, next: Standing)
-        requires process { process < length self.old }
-        requires unready { standing self.old process ≢ Ready }
-        ensures { self.new ≡ set self.old process next }
-    {
-        let before = self.standings[process];
-        self.out = self.out - out_weight(&before) + out_weight(&next);
-        self.live = self.live + stopped_weight(&before) - stopped_weight(&next);
-        enqueue(&mut self.queue, process, &next);
-        self.standings[process] = next;
     }
 }
 
