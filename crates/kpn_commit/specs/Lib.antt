@@ -4,3 +4,4 @@ pub mod Waiting
 pub mod Resolving
 pub mod Works
 pub mod Coherent
+pub mod Answering

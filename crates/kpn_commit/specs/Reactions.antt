@@ -1,33 +1,61 @@
 -- The effect of a process's answer on the network.
-use Rattle.std.specs.Prelude.{◌≡◌, ℕ, List, Option, Some, set}
+use Rattle.std.specs.Prelude.{◌≡◌, ◌≢◌, ◌<◌, ℕ, List, Option, Some, length, set}
 use Rattle.kpn_model.specs.declared.token.Token.{Token}
 use Rattle.kpn_model.specs.declared.kinds.Card.{Card}
+use Rattle.kpn_model.specs.declared.kinds.Act.{Act}
+use Rattle.kpn_model.specs.declared.kinds.Act.TheVariants.{Stop}
 use Rattle.kpn_model.specs.declared.kinds.Answer.{Answer}
 use Rattle.kpn_model.specs.declared.history.Deed.{Deed}
 use Rattle.kpn_model.specs.declared.history.Entry.TheVariants.{Did}
 use Rattle.kpn_model.specs.Network.{Family, Network}
-use Rattle.kpn_model.specs.Semantics.{IsEnabled, Does, IsDeed, after_deed}
+use Rattle.kpn_model.specs.Semantics.{State, IsPossible, IsEnabled, Does, IsDeed, wants, after_deed}
 use Rattle.kpn_state.specs.StateAndHistory.{StateAndHistory, more}
 use Rattle.kpn_state.specs.declared.standing.Standing.{Standing}
-use Rattle.kpn_state.specs.declared.standing.Standing.TheVariants.{Parked}
+use Rattle.kpn_state.specs.declared.standing.Standing.TheVariants.{Ready, Parked}
 use Rattle.kpn_commit.specs.declared.react.Reaction.{Reaction}
 use Rattle.kpn_commit.specs.declared.react.Reaction.TheVariants.{Waits, Acts, HandsOn}
-use Rattle.kpn_state.specs.Standings.{standing, standing_after, StandingsFit, partner}
+use Rattle.kpn_state.specs.Standings.{standing, standing_after, StandingsFit, partner, HasChannel}
+
+-- a process of a network that the state fits, and room for one more entry
+pub record HasRoomToAct (net : Network) (s : StateAndHistory) (p : ℕ) : Type 0 where
+  pub process : p < length s.state.processes
+  pub processes : length s.state.processes ≡ length net.processes
+  pub channels : length s.state.channels ≡ length net.channels
+  pub room : length s.history < s.limit
+
+-- p does the act, and the deed is entered
+pub record EntersDeed (kinds : Family) (net : Network) (s : StateAndHistory) (p : ℕ) (act : Act) (next : List ℕ) (d : Deed) (t : StateAndHistory) : Type 0 where
+  pub is_deed : IsDeed kinds net s.state p act d
+  pub entry : t ≡ more s (after_deed kinds net s.state p next d) (Did p d)
+
+-- p can't do the act, and nothing changes
+pub record IsLeft (kinds : Family) (net : Network) (s : StateAndHistory) (p : ℕ) (act : Act) (t : StateAndHistory) : Type 0 where
+  pub cannot : IsPossible kinds net s.state p act → ⊥
+  pub same : t ≡ s
+
+-- p wants what it answered, no other parked process can continue, and there is room for one more entry
+pub record WantsToAct (kinds : Family) (admits : Card → List ℕ → Option Token → Type 0) (net : Network) (s : StateAndHistory) (standings : List Standing) (p : ℕ) (a : Answer) : Type 0 where
+  pub keeps : StandingsFit kinds admits net (Some p) s.state standings
+  pub process : p < length standings
+  pub wants : wants kinds net s.state p ≡ Some a
+  pub room : length s.history < s.limit
+
+-- p reads or writes as it answered, and would then be ready
+pub record ActsOn (kinds : Family) (admits : Card → List ℕ → Option Token → Type 0) (net : Network) (s : StateAndHistory) (standings : List Standing) (p : ℕ) (a : Answer) (d : Deed) (t : StateAndHistory) : Type 0 where
+  pub is_deed : IsDeed kinds net s.state p a.act d
+  pub entry : t ≡ more s (after_deed kinds net s.state p a.next d) (Did p d)
+  pub ready : standing_after d ≡ Ready
+  pub channel : HasChannel net d
+  pub keeps : StandingsFit kinds admits net (partner net d) t.state (set standings p (standing_after d))
+
+-- the answer is a stop, or p can't do it
+abbrev pub CannotGoOn : Family → Network → State → ℕ → Answer → Type 0
+CannotGoOn kinds net M p a = a.act ≢ Stop → IsPossible kinds net M p a.act → ⊥
 
 pub record Acted (kinds : Family) (net : Network) (s : StateAndHistory) (standings : List Standing) (p : ℕ) (d : Deed) (t : StateAndHistory) (moved : List Standing) : Type 0 where
   pub does : Does kinds net s.state p d t.state
   pub entry : t ≡ more s t.state (Did p d)
   pub moves : moved ≡ set standings p (standing_after d)
-
--- p, which was parked, does what it answered
-pub record Resumes (kinds : Family) (admits : Card → List ℕ → Option Token → Type 0) (net : Network) (s : StateAndHistory) (standings : List Standing) (p : ℕ) (t : StateAndHistory) (moved : List Standing) : Type 0 where
-  pub wanted : Answer
-  pub parked : standing standings p ≡ Parked wanted
-  pub deed : Deed
-  pub is_deed : IsDeed kinds net s.state p wanted.act deed
-  pub entry : t ≡ more s (after_deed kinds net s.state p wanted.next deed) (Did p deed)
-  pub moves : moved ≡ set standings p (standing_after deed)
-  pub keeps : StandingsFit kinds admits net (partner net deed) t.state moved
 
 -- p does what it wants, then the parked process at the other end of the channel does
 pub record Handed (kinds : Family) (net : Network) (s : StateAndHistory) (standings : List Standing) (p : ℕ) (t : StateAndHistory) (moved : List Standing) : Type 0 where

@@ -1,15 +1,14 @@
 //! Does the acts of processes.
-ghost use Rattle.std.specs.Prelude.{◌≡◌, ◌≢◌, ◌<◌, ℕ, List, Option, length, set, Some, IfSome, IfNone, IsSome};
+ghost use Rattle.std.specs.Prelude.{◌≡◌, ◌<◌, ℕ, List, Option, length, set, Some, IfSome, IfNone, IsSome};
 ghost use Rattle.kpn_model.specs.declared.token.Token.{Token as TokenV};
-ghost use Rattle.kpn_model.specs.Network.{card_of};
 ghost use Rattle.kpn_model.specs.Families.{family};
 ghost use Rattle.kpn_model.specs.Lawful.{NamesPort, LeadsOn};
 ghost use Rattle.kpn_model.specs.Semantics.{wants, IsPossible, IsDeed, after_deed};
 ghost use Rattle.kpn_model.specs.declared.kinds.Act.TheVariants.{Stop};
 ghost use Rattle.kpn_model.specs.declared.history.Entry.TheVariants.{Did};
 ghost use Rattle.kpn_state.specs.StateAndHistory.{more};
-ghost use Rattle.kpn_state.specs.declared.standing.Standing.TheVariants.{Ready};
 ghost use Rattle.kpn_state.specs.Standings.{StandingsFit, standing, standing_after, partner, HasChannel};
+ghost use Rattle.kpn_commit.specs.Reactions.{HasRoomToAct, EntersDeed, IsLeft, WantsToAct, ActsOn, CannotGoOn};
 
 use kpn_model::{Act, Answer, Card, Deed, Kinds, Local, Token};
 use kpn_network::Net;
@@ -25,14 +24,9 @@ fn read<K: Kinds, H: Keeper>(
     port: u8,
     next: Local,
 ) -> Option<Deed>
-    requires process { process < length store.old.state.processes }
-    requires processes { length store.old.state.processes ≡ length net.now.processes }
-    requires channels { length store.old.state.channels ≡ length net.now.channels }
-    requires room { length store.old.history < store.old.limit }
-    ensures is_deed { IfSome result (IsDeed (family K.Kinds) net.now store.old.state process (Act.Read port)) }
-    ensures entry { IfSome result (λ deed. store.new ≡ more store.old (after_deed (family K.Kinds) net.now store.old.state process next deed) (Did process deed)) }
-    ensures cannot { IfNone result (IsPossible (family K.Kinds) net.now store.old.state process (Act.Read port) → ⊥) }
-    ensures same { IfNone result (store.new ≡ store.old) }
+    requires { HasRoomToAct net.now store.old process }
+    ensures does { IfSome result (λ deed. EntersDeed (family K.Kinds) net.now store.old process (Act.Read port) next deed store.new) }
+    ensures cannot { IfNone result (IsLeft (family K.Kinds) net.now store.old process (Act.Read port) store.new) }
 {
     let channel = net.input_at(process, usize::from(port))?;
     let (tokens, _) = store.tokens_and_capacity(channel);
@@ -53,14 +47,9 @@ fn write<K: Kinds, H: Keeper>(
     token: Token,
     next: Local,
 ) -> Option<Deed>
-    requires process { process < length store.old.state.processes }
-    requires processes { length store.old.state.processes ≡ length net.now.processes }
-    requires channels { length store.old.state.channels ≡ length net.now.channels }
-    requires room { length store.old.history < store.old.limit }
-    ensures is_deed { IfSome result (IsDeed (family K.Kinds) net.now store.old.state process (Act.Write port token)) }
-    ensures entry { IfSome result (λ deed. store.new ≡ more store.old (after_deed (family K.Kinds) net.now store.old.state process next deed) (Did process deed)) }
-    ensures cannot { IfNone result (IsPossible (family K.Kinds) net.now store.old.state process (Act.Write port token) → ⊥) }
-    ensures same { IfNone result (store.new ≡ store.old) }
+    requires { HasRoomToAct net.now store.old process }
+    ensures does { IfSome result (λ deed. EntersDeed (family K.Kinds) net.now store.old process (Act.Write port token) next deed store.new) }
+    ensures cannot { IfNone result (IsLeft (family K.Kinds) net.now store.old process (Act.Write port token) store.new) }
 {
     let channel = net.output_at(process, usize::from(port))?;
     let (tokens, capacity) = store.tokens_and_capacity(channel);
@@ -79,14 +68,9 @@ fn perform<K: Kinds, H: Keeper>(
     process: usize,
     answer: Answer,
 ) -> Option<Deed>
-    requires process { process < length store.old.state.processes }
-    requires processes { length store.old.state.processes ≡ length net.now.processes }
-    requires channels { length store.old.state.channels ≡ length net.now.channels }
-    requires room { length store.old.history < store.old.limit }
-    ensures is_deed { IfSome result (IsDeed (family K.Kinds) net.now store.old.state process answer.act) }
-    ensures entry { IfSome result (λ deed. store.new ≡ more store.old (after_deed (family K.Kinds) net.now store.old.state process answer.next deed) (Did process deed)) }
-    ensures cannot { IfNone result (IsPossible (family K.Kinds) net.now store.old.state process answer.act → ⊥) }
-    ensures same { IfNone result (store.new ≡ store.old) }
+    requires { HasRoomToAct net.now store.old process }
+    ensures does { IfSome result (λ deed. EntersDeed (family K.Kinds) net.now store.old process answer.act answer.next deed store.new) }
+    ensures cannot { IfNone result (IsLeft (family K.Kinds) net.now store.old process answer.act store.new) }
 {
     match answer.act {
         Act::Stop => {
@@ -139,31 +123,6 @@ pub fn advance<K: Kinds, H: Keeper>(
     Some(deed)
 }
 
-/// Reads or writes, if that is possible; otherwise returns `None` and changes nothing.
-#[inline(always)]
-fn perform_on<K: Kinds, H: Keeper>(
-    net: &Net<K>,
-    store: &mut Store<H>,
-    process: usize,
-    answer: Answer,
-) -> Option<Deed>
-    requires process { process < length store.old.state.processes }
-    requires processes { length store.old.state.processes ≡ length net.now.processes }
-    requires channels { length store.old.state.channels ≡ length net.now.channels }
-    requires room { length store.old.history < store.old.limit }
-    ensures is_deed { IfSome result (IsDeed (family K.Kinds) net.now store.old.state process answer.act) }
-    ensures entry { IfSome result (λ deed. store.new ≡ more store.old (after_deed (family K.Kinds) net.now store.old.state process answer.next deed) (Did process deed)) }
-    ensures ready { IfSome result (λ deed. standing_after deed ≡ Ready) }
-    ensures cannot { IfNone result (answer.act ≢ Stop → IsPossible (family K.Kinds) net.now store.old.state process answer.act → ⊥) }
-    ensures same { IfNone result (store.new ≡ store.old) }
-{
-    match answer.act {
-        Act::Stop => None,
-        Act::Read(port) => read(net, store, process, port, answer.next),
-        Act::Write(port, token) => write(net, store, process, port, token, answer.next),
-    }
-}
-
 /// Does the act of an answer, if it is a read or a write and possible; otherwise returns `None` and changes nothing. The
 /// caller sets the standing of the process.
 #[inline(always)]
@@ -174,20 +133,17 @@ pub(crate) fn advance_on<K: Kinds, H: Keeper>(
     process: usize,
     answer: Answer,
 ) -> Option<Deed>
-    requires keeps { StandingsFit (family K.Kinds) K.admits net.now (Some process) store.old.state standings.now }
-    requires process { process < length standings.now }
-    requires wants { wants (family K.Kinds) net.now store.old.state process ≡ Some answer }
-    requires room { length store.old.history < store.old.limit }
-    ensures is_deed { IfSome result (IsDeed (family K.Kinds) net.now store.old.state process answer.act) }
-    ensures entry { IfSome result (λ deed. store.new ≡ more store.old (after_deed (family K.Kinds) net.now store.old.state process answer.next deed) (Did process deed)) }
-    ensures ready { IfSome result (λ deed. standing_after deed ≡ Ready) }
-    ensures channel { IfSome result (HasChannel net.now) }
-    ensures keeps { IfSome result (λ deed. StandingsFit (family K.Kinds) K.admits net.now (partner net.now deed) store.new.state (set standings.now process (standing_after deed))) }
-    ensures cannot { IfNone result (answer.act ≢ Stop → IsPossible (family K.Kinds) net.now store.old.state process answer.act → ⊥) }
-    ensures same { IfNone result (store.new ≡ store.old) }
+    requires { WantsToAct (family K.Kinds) K.admits net.now store.old standings.now process answer }
+    ensures acts { IfSome result (λ deed. ActsOn (family K.Kinds) K.admits net.now store.old standings.now process answer deed store.new) }
+    ensures cannot { IfNone result (CannotGoOn (family K.Kinds) net.now store.old.state process answer) }
+    ensures left { IfNone result (store.new ≡ store.old) }
 {
     net.assure_valid();
     laws_of::<K>(net.card(process));
-    let deed = perform_on(net, store, process, answer)?;
+    let deed = match answer.act {
+        Act::Stop => None,
+        Act::Read(port) => read(net, store, process, port, answer.next),
+        Act::Write(port, token) => write(net, store, process, port, token, answer.next),
+    }?;
     Some(deed)
 }

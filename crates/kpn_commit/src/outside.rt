@@ -1,14 +1,14 @@
 //! Tokens that enter or leave a channel from outside the network.
-ghost use Rattle.std.specs.Prelude.{◌≡◌, ◌<◌, ◌++◌, ◌∷◌, ℕ, [], length, drop, Some, None, IsTrue, false};
+ghost use Rattle.std.specs.Prelude.{◌≡◌, ◌<◌, ◌++◌, ◌∷◌, ℕ, [], length, drop, Some, IsTrue, false};
 ghost use Rattle.kpn_model.specs.Network.{channel_of};
 ghost use Rattle.kpn_model.specs.Families.{family};
 ghost use Rattle.kpn_model.specs.Semantics.{tokens, capacity, with_channel, IsPossible};
 ghost use Rattle.kpn_model.specs.Valid.{IsOfSort};
-ghost use Rattle.kpn_model.specs.declared.kinds.Act.{Act as ActV};
 ghost use Rattle.kpn_state.specs.StateAndHistory.{state_and_history};
 ghost use Rattle.kpn_state.specs.declared.standing.Standing.TheVariants.{Out};
 ghost use Rattle.kpn_state.specs.Standings.{standing};
 ghost use Rattle.kpn_commit.specs.Coherent.{IsCoherent, IsCoherentBut};
+ghost use Rattle.kpn_commit.specs.Answering.{OnlyWakes};
 
 use crate::cores::Core;
 use crate::parking::unpark;
@@ -17,44 +17,26 @@ use kpn_network::Net;
 use kpn_state::standing::parked;
 use kpn_state::{Keeper, Store};
 
-fn can_read<K: Kinds, H: Keeper>(net: &Net<K>, store: &Store<H>, process: usize, port: u8) -> bool
-    requires channels { length store.now.state.channels ≡ length net.now.channels }
-    ensures can { IsTrue result → IsPossible (family K.Kinds) net.now store.now.state process (ActV.Read port) }
-    ensures cannot { result ≡ false → IsPossible (family K.Kinds) net.now store.now.state process (ActV.Read port) → ⊥ }
-{
-    let Some(channel) = net.in_of(process, usize::from(port)) else {
-        return false;
-    };
-    let (tokens, _) = store.tokens_and_capacity(channel);
-    tokens > 0
-}
-
-fn can_write<K: Kinds, H: Keeper>(
-    net: &Net<K>,
-    store: &Store<H>,
-    process: usize,
-    port: u8,
-    token: Token,
-) -> bool
-    requires channels { length store.now.state.channels ≡ length net.now.channels }
-    ensures can { IsTrue result → IsPossible (family K.Kinds) net.now store.now.state process (ActV.Write port token) }
-    ensures cannot { result ≡ false → IsPossible (family K.Kinds) net.now store.now.state process (ActV.Write port token) → ⊥ }
-{
-    let Some(channel) = net.out_of(process, usize::from(port)) else {
-        return false;
-    };
-    let (tokens, capacity) = store.tokens_and_capacity(channel);
-    tokens < capacity
-}
-
 fn can_do<K: Kinds, H: Keeper>(net: &Net<K>, store: &Store<H>, process: usize, act: Act) -> bool
-    requires channels { length store.now.state.channels ≡ length net.now.channels }
+    requires { length store.now.state.channels ≡ length net.now.channels }
     ensures can { IsTrue result → IsPossible (family K.Kinds) net.now store.now.state process act }
     ensures cannot { result ≡ false → IsPossible (family K.Kinds) net.now store.now.state process act → ⊥ }
 {
     match act {
-        Act::Read(port) => can_read(net, store, process, port),
-        Act::Write(port, token) => can_write(net, store, process, port, token),
+        Act::Read(port) => {
+            let Some(channel) = net.in_of(process, usize::from(port)) else {
+                return false;
+            };
+            let (tokens, _) = store.tokens_and_capacity(channel);
+            tokens > 0
+        }
+        Act::Write(port, _) => {
+            let Some(channel) = net.out_of(process, usize::from(port)) else {
+                return false;
+            };
+            let (tokens, capacity) = store.tokens_and_capacity(channel);
+            tokens < capacity
+        }
         Act::Stop => true,
     }
 }
@@ -62,9 +44,7 @@ fn can_do<K: Kinds, H: Keeper>(net: &Net<K>, store: &Store<H>, process: usize, a
 /// Makes a process ready if it is parked and can continue. No other parked process can.
 fn wake<K: Kinds, H: Keeper>(net: &Net<K>, core: &mut Core<H>, process: usize)
     requires coherent { IsCoherentBut (family K.Kinds) K.admits net.now (Some process) core.old }
-    ensures store { core.new.store ≡ core.old.store }
-    ensures coherent { IsCoherent (family K.Kinds) K.admits net.now core.new }
-    ensures none_sent { (p : ℕ) → standing core.new.standings p ≡ Out → standing core.old.standings p ≡ Out }
+    ensures { OnlyWakes (family K.Kinds) K.admits net.now core.old core.new }
 {
     let Some(answer) = parked(core.standings.as_slice(), process) else {
         return;

@@ -1,5 +1,5 @@
 //! The immediate effect of an answer.
-ghost use Rattle.std.specs.Prelude.{◌≡◌, ◌≢◌, ◌↔◌, ◌<◌, ◌≤◌, ◌+◌, ℕ, length, set, Contains, Some, None, IfSome, IfNone, IsTrue, true, false};
+ghost use Rattle.std.specs.Prelude.{◌≡◌, ◌≢◌, ◌↔◌, ◌<◌, ◌≤◌, ◌+◌, length, Some, None, IfSome, IfNone, IsTrue, true, false};
 ghost use Rattle.kpn_model.specs.Families.{family};
 ghost use Rattle.kpn_model.specs.declared.kinds.Answer.{Answer as AnswerV};
 ghost use Rattle.kpn_model.specs.Semantics.{wants, IsPossible};
@@ -7,8 +7,9 @@ ghost use Rattle.kpn_model.specs.declared.kinds.Act.TheVariants.{Stop};
 ghost use Rattle.kpn_state.specs.declared.standing.Standing.TheVariants.{Parked, Ready};
 ghost use Rattle.kpn_state.specs.Standings.{standing, is_busy, partner, HasChannel};
 ghost use Rattle.kpn_commit.specs.Coherent.{IsCoherent, IsCoherentBut};
-ghost use Rattle.kpn_commit.specs.Waiting.{AreWaiting, HasMark, partner_marked};
-ghost use Rattle.kpn_commit.specs.Reactions.{Reacts, Resumes};
+ghost use Rattle.kpn_commit.specs.Waiting.{HasMark, partner_marked};
+ghost use Rattle.kpn_commit.specs.Reactions.{Reacts, CannotGoOn};
+ghost use Rattle.kpn_commit.specs.Answering.{HasAnswered, ReactsTo, KeepsStanding, Resumes, made_ready};
 ghost use Rattle.kpn_commit.specs.declared.react.Reaction.{Reaction as ReactionV};
 
 use crate::act::{advance, advance_on};
@@ -79,13 +80,8 @@ fn react_to<K: Kinds, H: Keeper>(
     process: usize,
     answer: Answer,
 ) -> Reaction
-    requires coherent { IsCoherent (family K.Kinds) K.admits net.now core.old }
-    requires process { process < length core.old.standings }
-    requires wants { wants (family K.Kinds) net.now core.old.store.state process ≡ Some answer }
-    requires busy { is_busy (standing core.old.standings process) ≡ true }
-    requires room { length core.old.store.history + 2 ≤ core.old.store.limit }
-    ensures reacts { Reacts (family K.Kinds) net.now core.old.store core.old.standings process answer result core.new.store core.new.standings }
-    ensures coherent { IsCoherent (family K.Kinds) K.admits net.now core.new }
+    requires { HasAnswered (family K.Kinds) K.admits net.now core.old process answer }
+    ensures { ReactsTo (family K.Kinds) K.admits net.now core.old process answer result core.new }
 {
     let Some(deed) = advance(net, &mut core.store, &mut core.standings, process, answer) else {
         park(net, core, process, rebuilt(answer));
@@ -114,17 +110,11 @@ pub(crate) fn react_on<K: Kinds, H: Keeper>(
     process: usize,
     answer: Answer,
 ) -> Option<Reaction>
-    requires coherent { IsCoherent (family K.Kinds) K.admits net.now core.old }
-    requires process { process < length core.old.standings }
-    requires wants { wants (family K.Kinds) net.now core.old.store.state process ≡ Some answer }
-    requires busy { is_busy (standing core.old.standings process) ≡ true }
-    requires room { length core.old.store.history + 2 ≤ core.old.store.limit }
-    ensures reacts { IfSome result (λ r. Reacts (family K.Kinds) net.now core.old.store core.old.standings process answer r core.new.store (set core.new.standings process Ready)) }
-    ensures stays { standing core.new.standings process ≡ standing core.old.standings process }
-    ensures many { length core.new.standings ≡ length core.old.standings }
-    ensures coherent { IfSome result (λ _. IsCoherent (family K.Kinds) K.admits net.now (record core.new { standings = set core.new.standings process Ready })) }
-    ensures cannot { IfNone result (answer.act ≢ Stop → IsPossible (family K.Kinds) net.now core.old.store.state process answer.act → ⊥) }
-    ensures same { IfNone result (core.new ≡ core.old) }
+    requires { HasAnswered (family K.Kinds) K.admits net.now core.old process answer }
+    ensures reacts { IfSome result (λ r. ReactsTo (family K.Kinds) K.admits net.now core.old process answer r (made_ready core.new process)) }
+    ensures standing { KeepsStanding core.old.standings core.new.standings process }
+    ensures cannot { IfNone result (CannotGoOn (family K.Kinds) net.now core.old.store.state process answer) }
+    ensures left { IfNone result (core.new ≡ core.old) }
 {
     let deed = advance_on(net, &mut core.store, &mut core.standings, process, answer)?;
     if !partner_waits(&core.waiting.marks, deed) {
@@ -176,14 +166,10 @@ fn park_or_stop<K: Kinds, H: Keeper>(
     process: usize,
     answer: Answer,
 )
-    requires coherent { IsCoherent (family K.Kinds) K.admits net.now core.old }
-    requires wants { wants (family K.Kinds) net.now core.old.store.state process ≡ Some answer }
-    requires ready { standing core.old.standings process ≡ Ready }
-    requires cannot { answer.act ≢ Stop → IsPossible (family K.Kinds) net.now core.old.store.state process answer.act → ⊥ }
-    requires room { length core.old.store.history + 2 ≤ core.old.store.limit }
-    ensures reacts { (r : ReactionV) × Reacts (family K.Kinds) net.now core.old.store core.old.standings process answer r core.new.store core.new.standings }
-    ensures ready { standing core.new.standings process ≢ Ready }
-    ensures coherent { IsCoherent (family K.Kinds) K.admits net.now core.new }
+    requires answered { HasAnswered (family K.Kinds) K.admits net.now core.old process answer }
+    requires cannot { CannotGoOn (family K.Kinds) net.now core.old.store.state process answer }
+    ensures reacts { (r : ReactionV) × ReactsTo (family K.Kinds) K.admits net.now core.old process answer r core.new }
+    ensures unready { standing core.new.standings process ≢ Ready }
 {
     let _ = react(net, core, process, answer);
 }
@@ -194,10 +180,9 @@ fn park_or_stop<K: Kinds, H: Keeper>(
 fn resume<K: Kinds, H: Keeper>(net: &Net<K>, core: &mut Core<H>, process: usize) -> bool
     requires coherent { IsCoherentBut (family K.Kinds) K.admits net.now (Some process) core.old }
     requires room { length core.old.store.history < core.old.store.limit }
-    ensures resumes { IsTrue result → Resumes (family K.Kinds) K.admits net.now core.old.store core.old.standings process core.new.store core.new.standings }
+    ensures resumes { IsTrue result → Resumes (family K.Kinds) K.admits net.now core.old process core.new }
     ensures cannot { result ≡ false → (a : AnswerV) → standing core.old.standings process ≡ Parked a → IsPossible (family K.Kinds) net.now core.old.store.state process a.act → ⊥ }
     ensures same { result ≡ false → core.new ≡ core.old }
-    ensures waiting { AreWaiting net.now core.new.store.state core.new.standings core.new.waiting }
 {
     let Some(wanted) = parked(core.standings.as_slice(), process) else {
         return false;

@@ -5,6 +5,7 @@ ghost use Rattle.std.specs.List.{list_any};
 ghost use Rattle.kpn_state.specs.Standings.{is_busy};
 ghost use Rattle.kpn_commit.specs.Coherent.{IsCoherent};
 ghost use Rattle.kpn_commit.specs.Resolving.{Resolves};
+ghost use Rattle.kpn_commit.specs.Answering.{IsIdle, ResolvesTo};
 
 use crate::act::advance;
 use crate::choose::choose;
@@ -38,11 +39,8 @@ fn enlarged(capacity: usize, step: usize, ceiling: usize) -> usize
 #[cold]
 #[inline(never)]
 fn resolve_idle<K: Kinds, H: Keeper>(net: &Net<K>, core: &mut Core<H>) -> Resolution
-    requires coherent { IsCoherent (family K.Kinds) K.admits net.now core.old }
-    requires idle { list_any is_busy core.old.standings ≡ false }
-    requires room { length core.old.store.history + 2 ≤ core.old.store.limit }
-    ensures resolves { Resolves (family K.Kinds) net.now core.old.store core.old.standings result core.new.store core.new.standings }
-    ensures coherent { IsCoherent (family K.Kinds) K.admits net.now core.new }
+    requires { IsIdle (family K.Kinds) K.admits net.now core.old }
+    ensures { ResolvesTo (family K.Kinds) K.admits net.now core.old result core.new }
 {
     net.assure_valid();
     if core.standings.all_stopped() {

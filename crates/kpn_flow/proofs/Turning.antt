@@ -64,6 +64,10 @@ module _ (kinds : Family) (admits : Card → List ℕ → Option Token → Type 
   asked_nobody until [] s t l m none h = h.0
   asked_nobody until (r ∷ rs) s t l m none h = absurd (omega arith)
 
+  pub nobody_moved : (until : ℕ) (rs : List Reaction) (s t : StateAndHistory) (l m : List Standing) → length rs ≡ 0 → AreAsked kinds admits net until s l rs t m → m ≡ l
+  nobody_moved until [] s t l m none h = h.1
+  nobody_moved until (r ∷ rs) s t l m none h = absurd (omega arith)
+
   -- and the room stays
   pub asked_limit : (until : ℕ) (rs : List Reaction) (s t : StateAndHistory) (l m : List Standing) → AreAsked kinds admits net until s l rs t m → t.limit ≡ s.limit
   asked_limit until [] s t l m h = ap (λ (x : StateAndHistory). x.limit) h.0

@@ -2,6 +2,7 @@ pub mod Events
 pub mod Flows
 pub mod Ends
 pub mod Pauses
+pub mod Stretches
 pub mod Preloaded
 pub mod Waits
 pub mod Pieces

@@ -90,42 +90,36 @@ pub fn stops_at_once<B: Body>(bodies: &[B], process: usize) -> bool
     matches!(answer.act, Act::Stop)
 }
 
-fn has_live_writer<B: Body>(net: &Net<B::Kinds>, bodies: &[B], channel: usize) -> bool
-    requires { length bodies.now ≡ length net.now.processes }
-    ensures { result ≡ has_live_writer (family B.Kinds.Kinds) net.now (map B.card bodies.now) channel }
-{
-    net.assure_valid();
-    channel < net.channels() && !stops_at_once(bodies, net.ends(channel).writer)
-}
-
-fn has_live_reader<B: Body>(net: &Net<B::Kinds>, bodies: &[B], channel: usize) -> bool
-    requires { length bodies.now ≡ length net.now.processes }
-    ensures { result ≡ has_live_reader (family B.Kinds.Kinds) net.now (map B.card bodies.now) channel }
-{
-    net.assure_valid();
-    channel < net.channels() && !stops_at_once(bodies, net.ends(channel).reader)
-}
-
 fn any_live_writer<B: Body>(net: &Net<B::Kinds>, bodies: &[B], channels: &[usize]) -> bool
     requires { length bodies.now ≡ length net.now.processes }
     ensures { result ≡ list_any (has_live_writer (family B.Kinds.Kinds) net.now (map B.card bodies.now)) channels.now }
 {
-    channels.iter().any(
-        |c|
-            requires { length bodies.now ≡ length net.now.processes }
-        { has_live_writer(net, bodies, *c) },
-    )
+    net.assure_valid();
+    let mut rest = channels;
+    while let Some((first, later)) = rest.split_first() {
+        let channel = *first;
+        if channel < net.channels() && !stops_at_once(bodies, net.ends(channel).writer) {
+            return true;
+        }
+        rest = later;
+    }
+    false
 }
 
 fn any_live_reader<B: Body>(net: &Net<B::Kinds>, bodies: &[B], channels: &[usize]) -> bool
     requires { length bodies.now ≡ length net.now.processes }
     ensures { result ≡ list_any (has_live_reader (family B.Kinds.Kinds) net.now (map B.card bodies.now)) channels.now }
 {
-    channels.iter().any(
-        |c|
-            requires { length bodies.now ≡ length net.now.processes }
-        { has_live_reader(net, bodies, *c) },
-    )
+    net.assure_valid();
+    let mut rest = channels;
+    while let Some((first, later)) = rest.split_first() {
+        let channel = *first;
+        if channel < net.channels() && !stops_at_once(bodies, net.ends(channel).reader) {
+            return true;
+        }
+        rest = later;
+    }
+    false
 }
 
 fn end_fault<B: Body>(

@@ -1,12 +1,13 @@
 //! One stretch of a flow.
-ghost use Rattle.std.specs.Prelude.{◌≡◌, ℕ, ◌+◌, ◌*◌, ◌≤◌, [], length, map, option_map, sum_by, false, IfSome, IfNone};
+ghost use Rattle.std.specs.Prelude.{◌≡◌, ◌+◌, ◌≤◌, [], map, option_map, false, IfSome, IfNone};
 ghost use Rattle.std.specs.List.{list_any};
 ghost use Rattle.kpn_model.specs.Families.{family};
 ghost use Rattle.kpn_state.specs.declared.standing.Standing.TheVariants.{Ready};
 ghost use Rattle.kpn_state.specs.Standings.{standing, is_busy};
-ghost use Rattle.kpn_flow.specs.Flows.{IsSettled, HasAllBodies};
-ghost use Rattle.kpn_flow.specs.Pauses.{OpenRun, IsAwaited, IsRest, TellWants};
-ghost use Rattle.kpn_flow.specs.Waits.{holds_up, is_not_parked, starves};
+ghost use Rattle.kpn_flow.specs.Flows.{IsSettled};
+ghost use Rattle.kpn_flow.specs.Pauses.{IsAwaited};
+ghost use Rattle.kpn_flow.specs.Stretches.{MayStretch, Stretches};
+ghost use Rattle.kpn_flow.specs.Waits.{holds_up, starves};
 
 use crate::pause::Pause;
 use crate::waits::{any_holds_up, any_starves};
@@ -52,14 +53,7 @@ fn rest<K: Kinds>(
     requires idle { list_any is_busy core.old.standings ≡ false }
     requires room { 2 ≤ core.old.store.limit }
     requires emptied { core.old.store.history ≡ [] }
-    ensures settled { IsSettled (family K.Kinds) K.admits net.now core.new }
-    ensures limit { core.new.store.limit ≡ core.old.store.limit }
-    ensures run { OpenRun (family K.Kinds) net.now inputs.now outputs.now core.old.store.state core.new.store.history core.new.store.state }
-    ensures few { length core.new.store.history ≤ 2 }
-    ensures rests { IfSome result (IsRest (family K.Kinds) net.now inputs.now outputs.now core.new.store.state) }
-    ensures none { IfSome result (λ _. core.new.store.history ≡ []) }
-    ensures told { IfSome result (TellWants (family K.Kinds) net.now core.new.store.state core.new.standings) }
-    ensures goes { IfNone result (sum_by is_not_parked core.new.standings + 1 ≤ sum_by is_not_parked core.old.standings + 2 * length core.new.store.history) }
+    ensures { Stretches (family K.Kinds) K.admits net.now inputs.now outputs.now core.old 2 result core.new }
 {
     if let Some(pause) = awaited(net, core.standings.as_slice(), inputs, outputs) {
         return Some(pause);
@@ -83,19 +77,8 @@ pub(crate) fn stretch<B: Body>(
     again: &mut Option<usize>,
     until: usize,
 ) -> Option<Pause>
-    requires settled { IsSettled (family B.Kinds.Kinds) B.Kinds.admits net.now core.old }
-    requires bodies { HasAllBodies net.now (map (option_map B.card) bodies.now) }
-    requires some { 1 ≤ until }
-    requires room { until + 1 ≤ core.old.store.limit }
-    requires again { IfSome again.old (λ p. standing core.old.standings p ≡ Ready) }
-    ensures settled { IsSettled (family B.Kinds.Kinds) B.Kinds.admits net.now core.new }
-    ensures limit { core.new.store.limit ≡ core.old.store.limit }
-    ensures run { OpenRun (family B.Kinds.Kinds) net.now inputs.now outputs.now core.old.store.state core.new.store.history core.new.store.state }
-    ensures few { length core.new.store.history ≤ until + 1 }
-    ensures rests { IfSome result (IsRest (family B.Kinds.Kinds) net.now inputs.now outputs.now core.new.store.state) }
-    ensures none { IfSome result (λ _. core.new.store.history ≡ []) }
-    ensures told { IfSome result (TellWants (family B.Kinds.Kinds) net.now core.new.store.state core.new.standings) }
-    ensures goes { IfNone result (sum_by is_not_parked core.new.standings + 1 ≤ sum_by is_not_parked core.old.standings + 2 * length core.new.store.history) }
+    requires { MayStretch (family B.Kinds.Kinds) B.Kinds.admits net.now core.old (map (option_map B.card) bodies.now) again.old until }
+    ensures stretches { Stretches (family B.Kinds.Kinds) B.Kinds.admits net.now inputs.now outputs.now core.old (until + 1) result core.new }
     ensures again { IfSome again.new (λ p. standing core.new.standings p ≡ Ready) }
 {
     core.store.forget();

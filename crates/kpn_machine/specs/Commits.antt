@@ -50,7 +50,8 @@ Commits kinds s i LaidBack t = (s.end ≢ None) × (t ≡ record s { standings =
 Commits kinds s i (Done n) t = WorksOn kinds s i (Done n) t
 Commits kinds s i (Parked n) t = WorksOn kinds s i (Parked n) t
 
--- done exactly when the process was enabled; else parked, with no entry or with a growth and a put
+-- done exactly when the process was enabled; else parked, with no entry or with a growth and a put; or laid back, if the
+-- run had ended
 abbrev pub TellsEnabled : Family → MachineView → ℕ → Outcome → Type 0
 TellsEnabled kinds s p (Done n) = IsEnabled kinds s.network s.state p × (1 ≤ n) × (n ≤ 3)
 TellsEnabled kinds s p (Parked n) = (IsEnabled kinds s.network s.state p → ⊥) × ((n ≡ 0) ⊎ (n ≡ 2))
@@ -79,6 +80,12 @@ pub record GoesRound (kinds : Family) (s t : MachineView) : Type 0 where
 abbrev pub GoesRounds : Family → MachineView → List Outcome → MachineView → Type 0
 GoesRounds kinds s [] t = t ≡ s
 GoesRounds kinds s (o ∷ outcomes) t = (m : MachineView) × (round : GoesRound kinds s m) × (round.outcome ≡ o) × GoesRounds kinds m outcomes t
+
+-- this many answers were taken, at most `most`; none only if no process was ready or `most` is 0
+pub record GoesOn (kinds : Family) (s : MachineView) (most asked : ℕ) (t : MachineView) : Type 0 where
+  pub rounds : (outcomes : List Outcome) × (length outcomes ≡ asked) × GoesRounds kinds s outcomes t
+  pub few : asked ≤ most
+  pub stuck : asked ≡ 0 → 0 < most → (p : ℕ) → standing s.standings p ≢ Ready
 
 -- the answer of a process that was out was taken, and the process went out again
 pub record CommitsOn (kinds : Family) (s : MachineView) (i : Input) (outcome : Outcome) (j : Input) (t : MachineView) : Type 0 where

@@ -18,8 +18,8 @@ use kpn_model::{Act, Local, Status, Token};
 use kpn_network::Net;
 use kpn_state::{Keeper, Store};
 
-/// Asks ready processes in place, and does or parks their acts, until `most` were asked, there are `until` entries
-/// or no process is ready. Returns how many were asked.
+/// Asks ready processes in place, and does or parks their acts, until `most` answers were taken, there are `until`
+/// entries or no process is ready. Returns how many answers were taken.
 ///
 /// `again` is the process to ask first, and afterwards the one to ask next. The history must have room for
 /// `until + 1` entries.
@@ -99,8 +99,8 @@ fn question_to<'a, B: Body, H: Keeper>(
 }
 
 /// Whether a process is likely to do its next act at once after this one, before which it read `last`. After a read most
-/// processes write, or read their next port. After a write they wait for their reader, and after two reads of port 0 for
-/// their writer.
+/// processes write, or read their next port. After a write they wait for their reader; after a read of port 0 that
+/// follows another read, for its writer.
 #[inline(always)]
 fn goes_on_after(act: Act, last: Option<Token>) -> bool {
     match act {

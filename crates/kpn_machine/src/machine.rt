@@ -13,13 +13,13 @@ ghost use Rattle.kpn_state.specs.Standings.{standing, is_out, is_ready, Standing
 ghost use Rattle.kpn_body.specs.Input.{input, answer_to};
 ghost use Rattle.kpn_machine.specs.MachineView.{machine_view, IsOut, IsOutAt, TakesOut, IsFaithful, IsFresh};
 ghost use Rattle.kpn_commit.specs.declared.outcome.Outcome.{Outcome as OutcomeV};
-ghost use Rattle.kpn_machine.specs.Commits.{Commits, CommitsOn, Appends, EndsAs, ContinuesRun, GoesRound, GoesRounds, TellsEnabled, entries_appended};
+ghost use Rattle.kpn_machine.specs.Commits.{Commits, CommitsOn, Appends, EndsAs, ContinuesRun, GoesRound, GoesRounds, GoesOn, TellsEnabled, entries_appended};
 ghost use Rattle.kpn_laws.specs.RoomOfRun.{TakesLeastRoom};
 ghost use Rattle.kpn_laws.specs.StreamsOfRun.{ApproachLeastSolution};
 
 use crate::asking::ask_ready;
 use crate::chronicle::Chronicle;
-use crate::equality::{same_card, same_last, same_local};
+use crate::equality::{same_card, same_local};
 use crate::opening::{OpenFault, Start, misfit, prepare, seat_all};
 use kpn_body::{Body, Finished, Task};
 use kpn_commit::work::{settle, work, work_on};
@@ -42,7 +42,7 @@ pub struct Machine<B: Body, H: Keeper = Wide> {
     spare: Vec<B>,
     end: Option<End>,
     commits: u64,
-    /// The process to ask next in place, since it has just read.
+    /// The process to ask next in place if it is ready then: it has just read.
     again: Option<usize>,
 }
 
@@ -323,7 +323,7 @@ fn is_out_with<K: Kinds, H: Keeper>(
         Status::Live {
             local: now,
             last: read,
-        } => same_local(*now, local) && same_last(*read, last),
+        } => same_local(*now, local) && *read == last,
         Status::Done => false,
     }
 }
@@ -366,7 +366,8 @@ impl<B: Body, H: Keeper> Machine<B, H> {
     /// If the run has ended, the process is ready again. Otherwise its act is done, or else the process is
     /// parked with its answer. If the deed enables the parked process at the other end of the channel, that
     /// does its deed next. If no process is then ready or out, the run ends, or the chosen channel grows and
-    /// its writer's put is done (Parks 1995). Takes no memory except that of a growth.
+    /// its writer's put is done (Parks 1995). The run also ends if the budget is then spent. Takes no memory
+    /// except that of a growth.
     ///
     /// Errors: the process is not out with this card, local state and last token. Nothing has then changed,
     /// and the answer is returned.
@@ -530,9 +531,7 @@ impl<B: Body, H: Keeper> Machine<B, H> {
     /// ready; then settles the run. Returns the number of answers taken. The run must not have ended.
     fn go_on(&mut self, most: u64) -> u64
         requires { self.old.end ≡ None }
-        ensures rounds { (outcomes : List OutcomeV) × (length outcomes ≡ result) × GoesRounds (family B.Kinds.Kinds) self.old outcomes self.new }
-        ensures most { result ≤ most }
-        ensures stuck { result ≡ 0 → 0 < most → (p : ℕ) → standing self.old.standings p ≢ Ready }
+        ensures { GoesOn (family B.Kinds.Kinds) self.old most result self.new }
     {
         self.net.assure_valid();
         let budget = self.net.budget();

@@ -98,20 +98,6 @@ pub fn start_rings<K: Kinds>(alloc: Global, net: &Net<K>) -> Result<Vec<Ring>, A
     Ok(rings)
 }
 
-fn start_store<K: Kinds, H: Keeper>(
-    alloc: Global,
-    net: &Net<K>,
-    limit: usize,
-) -> Result<Store<H>, AllocError>
-    ensures store { IfOk result (λ s. s ≡ state_and_history (start (family K.Kinds) net.now) [] limit) }
-    ensures admitted { OnOk result ((p : ℕ) → p < length net.now.processes → K.admits (card_of net.now p) (K.start (card_of net.now p)) None) }
-{
-    net.assure_valid();
-    let statuses = start_statuses(alloc, net)?;
-    let rings = start_rings(alloc, net)?;
-    Store::new(alloc, statuses, rings, limit)
-}
-
 fn empty_slots<B: Body>(alloc: Global, count: usize) -> Result<Vec<Option<B>>, AllocError>
     ensures { IfOk result (λ v. length v.items ≡ count) }
 {
@@ -142,8 +128,11 @@ pub fn prepare<B: Body, H: Keeper>(
     ensures slots { IfOk result (λ r. length r.slots.items ≡ length net.now.processes) }
     ensures admitted { OnOk result ((p : ℕ) → p < length net.now.processes → B.Kinds.admits (card_of net.now p) (B.Kinds.start (card_of net.now p)) None) }
 {
+    net.assure_valid();
+    let statuses = start_statuses(alloc, net)?;
+    let rings = start_rings(alloc, net)?;
     let core = Core {
-        store: start_store(alloc, net, limit)?,
+        store: Store::new(alloc, statuses, rings, limit)?,
         standings: Roster::new(alloc, net.processes())?,
         waiting: Waiting::new(alloc, net.processes(), net.channels())?,
     };

@@ -1,5 +1,6 @@
 -- The queue of the ready processes, the counts beside it, and how they fit the standings.
 use Rattle.std.specs.Prelude.{◌≡◌, ℕ, ◌≤◌, List, [], ◌∷◌, ◌++◌, length, if◌then◌else◌, nat_eq, count_by, filter, not}
+use Rattle.circular_buffer.specs.Buffer.{Buffer}
 use Rattle.kpn_state.specs.declared.standing.Standing.{Standing}
 use Rattle.kpn_state.specs.Standings.{standing, is_ready, is_out, is_live}
 
@@ -20,3 +21,8 @@ queue_after queue p x = if is_ready x then queue ++ p ∷ [] else queue
 
 abbrev pub without : ℕ → List ℕ → List ℕ
 without p queue = filter (λ q. not (nat_eq q p)) queue
+
+-- p has left the queue, which has its room still
+pub record HasLeft (p : ℕ) (queue moved : Buffer ℕ) : Type 0 where
+  pub items : moved.items ≡ without p queue.items
+  pub room : moved.capacity ≡ queue.capacity

@@ -75,8 +75,9 @@ HasChannel net (Took c t) = c < length net.channels
 HasChannel net (Put c t) = c < length net.channels
 HasChannel net DidStop = Unit {0}
 
--- tokens have their channels' sorts, standings fit statuses, and each parked process wants what it answered
--- and, except for the spared one, can't do it
+-- the state and the standings are of the network's size, tokens have their channels' sorts, capacities are at least 1
+-- and at most the ceiling, standings fit statuses, and each parked process wants what it answered and, except for the
+-- spared one, can't do it
 pub record StandingsFit (kinds : Family) (admits : Card → List ℕ → Option Token → Type 0) (net : Network) (spared : Option ℕ) (M : State) (standings : List Standing) : Type 0 where
   pub processes : length M.processes ≡ length net.processes
   pub channels : length M.channels ≡ length net.channels

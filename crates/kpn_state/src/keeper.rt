@@ -8,7 +8,8 @@ use std::alloc::{AllocError, Global};
 use std::snapshot::Snapshot;
 
 /// Keeps the entries of a history, with room for a fixed number: as they are (`Wide`), in 16 bytes each
-/// (`Packed`), or not at all (`Unkept`). Contracts see the entries in any case.
+/// (`Packed`), these with tallies (`Tallied` of `kpn_report`), or only their number (`Unkept`). Contracts see
+/// the entries in any case.
 pub trait Keeper: Drop {
     ghost use Rattle.std.specs.Prelude.{List, ℕ};
     ghost use Rattle.kpn_model.specs.declared.history.Entry.{Entry};

@@ -82,8 +82,9 @@ impl Ring {
     }
 }
 
-/// Makes room for `needed` tokens, if possible for twice the old room if that is more. So n growths by one
-/// copy at most 2n tokens. Errors: out of memory; the buffer is then unchanged.
+/// Makes room for `needed` tokens, or for twice the old room if that is more and there is memory for it. So
+/// after the first growth n more by one copy at most 2n tokens. Errors: out of memory; the buffer is then
+/// unchanged.
 fn make_room(buffer: &mut HeapCircularBuffer<Token>, needed: usize) -> Result<(), AllocError>
     requires { buffer.old.capacity < needed }
     ensures items { OnOk result (buffer.new.items ≡ buffer.old.items) }

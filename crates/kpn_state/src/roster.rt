@@ -3,7 +3,7 @@ ghost use Rattle.std.specs.Prelude.{◌≡◌, ◌≢◌, ◌<◌, ◌≤◌, �
 ghost use Rattle.std.specs.List.{list_any, list_all};
 ghost use Rattle.kpn_state.specs.declared.standing.Standing.TheVariants.{Ready, Out};
 ghost use Rattle.kpn_state.specs.Standings.{standing, is_busy, is_live, is_out, is_parked, is_ready, has_stopped};
-ghost use Rattle.kpn_state.specs.Rosters.{queue_after, times, without};
+ghost use Rattle.kpn_state.specs.Rosters.{queue_after, times, HasLeft};
 
 use crate::standing::Standing;
 use circular_buffer::HeapCircularBuffer;
@@ -115,7 +115,7 @@ impl Roster {
         self.live - self.ready() - self.out
     }
 
-    /// Sends out the process that has been ready the longest, and returns its number; `None` if none is ready.
+    /// Sends out the first process of the queue, and returns its number; `None` if none is ready.
     pub fn send_out(&mut self) -> Option<usize>
         ensures some { IfSome result (λ p. standing self.old p ≡ Ready) }
         ensures within { IfSome result (λ p. p < length self.old) }
@@ -168,7 +168,11 @@ impl Roster {
         match self.standings[process] {
             Standing::Ready => self.update_ready(process, next),
             Standing::Out | Standing::Parked(_) | Standing::Stopped => {
-                self.update_unready(process, next)
+                let before = self.standings[process];
+                self.out = self.out - out_weight(&before) + out_weight(&next);
+                self.live = self.live + stopped_weight(&before) - stopped_weight(&next);
+                enqueue(&mut self.queue, process, &next);
+                self.standings[process] = next;
             }
         }
     }
@@ -188,19 +192,6 @@ impl Roster {
                 self.standings[process] = next;
             }
         }
-    }
-
-    #[inline(always)]
-    fn update_unready(&mut self, process: usize, next: Standing)
-        requires process { process < length self.old }
-        requires unready { standing self.old process ≢ Ready }
-        ensures { self.new ≡ set self.old process next }
-    {
-        let before = self.standings[process];
-        self.out = self.out - out_weight(&before) + out_weight(&next);
-        self.live = self.live + stopped_weight(&before) - stopped_weight(&next);
-        enqueue(&mut self.queue, process, &next);
-        self.standings[process] = next;
     }
 }
 
@@ -239,8 +230,7 @@ fn enqueue(queue: &mut HeapCircularBuffer<usize>, process: usize, standing: &Sta
 #[inline(always)]
 fn withdraw(queue: &mut HeapCircularBuffer<usize>, process: usize)
     requires { times queue.old.items process ≡ 1 }
-    ensures items { queue.new.items ≡ without process queue.old.items }
-    ensures room { queue.new.capacity ≡ queue.old.capacity }
+    ensures { HasLeft process queue.old queue.new }
 {
     if let Some(last) = queue.back() {
         if *last == process {
@@ -255,8 +245,7 @@ fn withdraw(queue: &mut HeapCircularBuffer<usize>, process: usize)
 #[cold]
 #[inline(never)]
 fn sift(queue: &mut HeapCircularBuffer<usize>, process: usize)
-    ensures items { queue.new.items ≡ without process queue.old.items }
-    ensures room { queue.new.capacity ≡ queue.old.capacity }
+    ensures { HasLeft process queue.old queue.new }
 {
     for _seen in 0..queue.len() {
         let Some(first) = queue.pop_front() else {

@@ -1,4 +1,4 @@
-//! Processes, channels and the history, changed one entry at a time.
+//! Processes, channels and the history. Each change has its entry, but for tokens from outside the network.
 ghost use Rattle.std.specs.Prelude.{◌≡◌, ◌<◌, ◌≤◌, ◌^◌, ◌++◌, ◌∷◌, [], length, drop, Some, None, IfOk, OnOk, OnErr};
 ghost use Rattle.kpn_model.specs.History.{growths as growths_of};
 ghost use Rattle.kpn_model.specs.Semantics.{status, tokens, capacity, with_status, with_channel};
@@ -120,16 +120,6 @@ impl<H: Keeper> Store<H> {
     {
         self.history.keep(Entry::Did { process, deed });
     }
-
-    fn note_growth(&mut self, channel: usize, to: usize)
-        requires room { length self.old.history < self.old.limit }
-        requires small { IsSmall (Grew channel to) }
-        ensures { self.new ≡ more self.old self.old.state (Grew channel to) }
-    {
-        let _entries = self.history.count();
-        self.history.keep(Entry::Grew { channel, to });
-        self.growths += 1;
-    }
 }
 
 impl Store<Wide> {
@@ -235,7 +225,9 @@ impl<H: Keeper> Store<H> {
     {
         let ring = &mut self.rings[channel];
         ring.grow(to)?;
-        self.note_growth(channel, to);
+        let _entries = self.history.count();
+        self.history.keep(Entry::Grew { channel, to });
+        self.growths += 1;
         Ok(())
     }
 }

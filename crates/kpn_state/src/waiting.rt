@@ -24,7 +24,7 @@ impl Drop for Waiting {
 }
 
 impl Waiting {
-    /// Creates an empty wait set, with room for a candidate of each process. Errors: out of memory.
+    /// Makes it with nobody waiting, and with room for a candidate of each process. Errors: out of memory.
     pub fn new(alloc: Global, processes: usize, channels: usize) -> Result<Waiting, AllocError>
         ensures candidates { IfOk result (λ w. w.candidates ≡ candidate_list [] processes) }
         ensures marks { IfOk result (λ w. w.marks ≡ mark_lists (replicate channels false) (replicate channels false)) }

@@ -5,5 +5,5 @@ use Rattle.kpn_commit.proofs.act.write.Goals as goal
 pub put-requires-clause-space : goal.put-requires-clause-space
 put-requires-clause-space g c = search rules
 
-pub returns-clause-is_deed : goal.returns-clause-is_deed
-returns-clause-is_deed g c = search rules
+pub returns-clause-does : goal.returns-clause-does
+returns-clause-does g c = search rules

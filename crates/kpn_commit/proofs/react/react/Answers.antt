@@ -2,5 +2,5 @@
 use Rattle.std.proofs.Common.{rules}
 use Rattle.kpn_commit.proofs.react.react.Goals as goal
 
-pub react_to-requires-clause-wants : goal.react_to-requires-clause-wants
-react_to-requires-clause-wants g c = search rules
+pub react_to-requires-after_bounds : goal.react_to-requires-after_bounds
+react_to-requires-after_bounds g c κs within = search rules

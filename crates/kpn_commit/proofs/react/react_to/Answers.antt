@@ -6,66 +6,86 @@ use Rattle.kpn_commit.proofs.Keeping.{keeps_sparing, keeps_all, keeps_handed}
 use Rattle.kpn_commit.proofs.Working.{acted}
 use Rattle.kpn_commit.proofs.react.react_to.Goals as goal
 
-pub returns-then-resume-clause-reacts : goal.returns-then-resume-clause-reacts
-returns-then-resume-clause-reacts g c =
-    let r = c.if-resume.ensures.resumes refl in
-    let did = c.in-Some.ensures in
+pub returns-then-resume : goal.returns-then-resume
+returns-then-resume g c =
     record {
-      deed = c.in-Some.deed;
-      between = c.advance.new.store;
-      standings_between = c.advance.new.standings;
-      first = acted _ _ c.args.process c.args.answer c.in-Some.deed c.requires.wants did.is_deed did.entry did.standing;
-      other = c.in-Some-partner.other;
-      wanted = r.wanted;
-      at_other_end = sym c.in-Some-partner.ensures;
-      parked = r.parked;
-      handed = r.deed;
-      second = acted _ _ c.in-Some-partner.other r.wanted r.deed (did.keeps.wanted c.in-Some-partner.other r.wanted r.parked) r.is_deed r.entry r.moves;
+      reacts =
+          let r = c.if-resume.ensures.resumes refl in
+          let did = c.in-Some.ensures in
+          record {
+            deed = c.in-Some.deed;
+            between = c.advance.new.store;
+            standings_between = c.advance.new.standings;
+            first = acted _ _ c.args.process c.args.answer c.in-Some.deed c.requires.wants did.is_deed did.entry did.standing;
+            other = c.in-Some-partner.other;
+            wanted = r.wanted;
+            at_other_end = sym c.in-Some-partner.ensures;
+            parked = r.parked;
+            handed = r.deed;
+            second = acted _ _ c.in-Some-partner.other r.wanted r.deed (did.keeps.wanted c.in-Some-partner.other r.wanted r.parked) r.is_deed r.entry r.moves;
+          };
+      coherent =
+          let r = c.if-resume.ensures.resumes refl in
+          let did = c.in-Some.ensures in
+          record {
+            keeps =
+                keeps_handed c.requires.coherent.keeps c.args.process c.args.answer c.in-Some.deed c.in-Some-partner.other r.wanted r.deed r.keeps c.requires.process did.is_deed
+                (rw did.standing at r.parked) (rw did.entry at r.is_deed) (rw did.standing at r.moves);
+            waiting = r.waiting;
+          };
     }
 
-pub returns-then-resume-clause-coherent : goal.returns-then-resume-clause-coherent
-returns-then-resume-clause-coherent g c =
-    let r = c.if-resume.ensures.resumes refl in
-    let did = c.in-Some.ensures in
+pub returns-else-resume : goal.returns-else-resume
+returns-else-resume g c =
     record {
-      keeps =
-          keeps_handed c.requires.coherent.keeps c.args.process c.args.answer c.in-Some.deed c.in-Some-partner.other r.wanted r.deed r.keeps c.requires.process did.is_deed
-          (rw did.standing at r.parked) (rw did.entry at r.is_deed) (rw did.standing at r.moves);
-      waiting = c.if-resume.ensures.waiting;
-    }
-
-pub returns-else-resume-clause-coherent : goal.returns-else-resume-clause-coherent
-returns-else-resume-clause-coherent g c =
-    record {
-      keeps =
+      reacts =
+          let did = c.in-Some.ensures in
           rw (c.if-resume.ensures.same refl)
-          (keeps_all c.in-Some.ensures.keeps
-          (λ q a e at can.
-          let is : q ≡ c.in-Some-partner.other = cc (c.in-Some-partner.ensures) in
-          c.if-resume.ensures.cannot refl a (rw is at at) (rw is at can)));
-      waiting = c.if-resume.ensures.waiting;
+          (c.in-Some.deed, acted _ _ c.args.process c.args.answer c.in-Some.deed c.requires.wants did.is_deed did.entry did.standing);
+      coherent =
+          record {
+            keeps =
+                rw (c.if-resume.ensures.same refl)
+                (keeps_all c.in-Some.ensures.keeps
+                (λ q a e at can.
+                let is : q ≡ c.in-Some-partner.other = cc (c.in-Some-partner.ensures) in
+                c.if-resume.ensures.cannot refl a (rw is at at) (rw is at can)));
+            waiting = rw (c.if-resume.ensures.same refl, c.in-Some.ensures.entry, c.in-Some.ensures.standing) (acted_waiting (family_of g.K.Kinds.start g.K.Kinds.answer_of) c.requires.coherent.waiting c.args.process c.args.answer.next c.in-Some.deed c.requires.process c.requires.busy);
+          };
     }
 
 pub partner_waits-requires : goal.partner_waits-requires
 partner_waits-requires g c = has_mark c.requires.coherent.waiting.marks c.in-Some.deed c.in-Some.ensures.channel
 
-pub returns-in_default-partner-clause-coherent : goal.returns-in_default-partner-clause-coherent
-returns-in_default-partner-clause-coherent g c =
+pub returns-in_default-partner : goal.returns-in_default-partner
+returns-in_default-partner g c =
     record {
-      keeps = rw (← c.in_default-partner.ensures) at c.in-Some.ensures.keeps;
-      waiting = rw (c.in-Some.ensures.entry, c.in-Some.ensures.standing) (acted_waiting (family_of g.K.Kinds.start g.K.Kinds.answer_of) c.requires.coherent.waiting c.args.process c.args.answer.next c.in-Some.deed c.requires.process c.requires.busy);
+      reacts =
+          let did = c.in-Some.ensures in
+          (c.in-Some.deed, acted _ _ c.args.process c.args.answer c.in-Some.deed c.requires.wants did.is_deed did.entry did.standing);
+      coherent =
+          record {
+            keeps = rw (← c.in_default-partner.ensures) at c.in-Some.ensures.keeps;
+            waiting = rw (c.in-Some.ensures.entry, c.in-Some.ensures.standing) (acted_waiting (family_of g.K.Kinds.start g.K.Kinds.answer_of) c.requires.coherent.waiting c.args.process c.args.answer.next c.in-Some.deed c.requires.process c.requires.busy);
+          };
     }
 
-pub returns-then-not-partner_waits-clause-coherent : goal.returns-then-not-partner_waits-clause-coherent
-returns-then-not-partner_waits-clause-coherent g c =
-    let did = c.in-Some.ensures in
+pub returns-then-not-partner_waits : goal.returns-then-not-partner_waits
+returns-then-not-partner_waits g c =
     record {
-      keeps =
-          keeps_all did.keeps
-          (λ q a e at can.
-          others_blocked c.requires.coherent.waiting.marks (keeps_sparing c.requires.coherent.keeps c.args.process) c.args.answer c.in-Some.deed c.requires.process did.is_deed (sym c.partner_waits.ensures ∙ c.if-not-partner_waits.true) q a
-          (rw did.standing at at) (rw did.entry at can));
-      waiting = rw (did.entry, did.standing) (acted_waiting (family_of g.K.Kinds.start g.K.Kinds.answer_of) c.requires.coherent.waiting c.args.process c.args.answer.next c.in-Some.deed c.requires.process c.requires.busy);
+      reacts =
+          let did = c.in-Some.ensures in
+          (c.in-Some.deed, acted _ _ c.args.process c.args.answer c.in-Some.deed c.requires.wants did.is_deed did.entry did.standing);
+      coherent =
+          let did = c.in-Some.ensures in
+          record {
+            keeps =
+                keeps_all did.keeps
+                (λ q a e at can.
+                others_blocked c.requires.coherent.waiting.marks (keeps_sparing c.requires.coherent.keeps c.args.process) c.args.answer c.in-Some.deed c.requires.process did.is_deed (sym c.partner_waits.ensures ∙ c.if-not-partner_waits.true) q a
+                (rw did.standing at at) (rw did.entry at can));
+            waiting = rw (did.entry, did.standing) (acted_waiting (family_of g.K.Kinds.start g.K.Kinds.answer_of) c.requires.coherent.waiting c.args.process c.args.answer.next c.in-Some.deed c.requires.process c.requires.busy);
+          };
     }
 
 pub resume-requires-clause-coherent : goal.resume-requires-clause-coherent

@@ -2,11 +2,8 @@
 use Rattle.std.proofs.Common.{rules}
 use Rattle.kpn_commit.proofs.resolution.resolve.Goals as goal
 
-pub resolve_idle-requires-clause-idle : goal.resolve_idle-requires-clause-idle
-resolve_idle-requires-clause-idle g c = search rules
-
-pub resolve_idle-requires-clause-room : goal.resolve_idle-requires-clause-room
-resolve_idle-requires-clause-room g c = search rules
+pub resolve_idle-requires-after_bounds : goal.resolve_idle-requires-after_bounds
+resolve_idle-requires-after_bounds g c κs within = search rules
 
 pub returns-then-any_busy-clause-resolves : goal.returns-then-any_busy-clause-resolves
 returns-then-any_busy-clause-resolves g c = search rules

@@ -9,11 +9,11 @@ use Rattle.kpn_commit.proofs.work.work_on.Goals as goal
 
 pub returns-clause-works : goal.returns-clause-works
 returns-clause-works g c =
-    let reacts = c.in_ok-reaction.ensures.reacts in
+    let reacts = c.in_ok-reaction.ensures.reacts.reacts in
     let s = c.args.core.now.store in
     let l = c.react_on.new.core.standings in
     let p = c.args.process in
-    let there : p < length l = omega (arith, c.requires.process, c.react_on.ensures.many) in
+    let there : p < length l = omega (arith, c.requires.process, c.react_on.ensures.standing.many) in
     let left : length s.history + 2 < c.args.net.now.budget = omega (arith, c.if-budget-saturating_add.false, c.saturating_add.ensures, c.budget.ensures, c.entries-entries.ensures) in
     record {
       reaction = c.in_ok-reaction.reaction;

@@ -20,7 +20,7 @@ loop-self-preserved g c =
       );
       goes = rounds_go kinds _ _ _ more.0 more.2 before.goes;
       commits = omega (arith, counted, more.1, before.commits);
-      few = omega (arith, before.few, c.go_on-asked.ensures.most);
+      few = omega (arith, before.few, c.go_on-asked.ensures.few);
       out = λ p. let out = rounds_keep_out kinds _ _ more.0 more.2 p in (λ is. (before.out p).0 (out.0 is), λ was. out.1 ((before.out p).1 was));
       ended = λ some. absurd (some (rw (before.none (before.ended some)) at none));
       none = λ zero. absurd (omega (arith, zero, c.if-asked-eq0.false));

@@ -41,13 +41,17 @@ invariant_of-self g c =
     c.self.inside.core.standings c.ask_ready-asked.new.core.standings c.settle-ended.new.core.standings c.self.inside.end c.self.inside.commits c.ask_ready-asked.result c.self.invariant.0 none asked c.settle-ended.result.0 c.settle-ended.ensures.resolves c.settle-ended.ensures.coherent.keeps c.settle-ended.result.1 c.settle-ended.ensures.ended in
     (rw c.note_end.ensures all.sound, c.self.invariant.1, c.settle-ended.ensures.coherent.waiting)
 
-pub returns-clause-rounds : goal.returns-clause-rounds
-returns-clause-rounds g c =
+pub returns : goal.returns
+returns g c =
     let asked = rw c.budget-budget.ensures at c.ask_ready-asked.ensures.asked in
     let none : c.self.inside.end ≡ None = rw (← c.self.view_is) at c.requires in
     let all = gone (family_of g.B.Kinds.Kinds.start g.B.Kinds.Kinds.answer_of) g.B.Kinds.Kinds.admits c.self.inside.net (map (option_map g.B.Body.card) c.self.inside.bodies.items) c.self.inside.core.store c.ask_ready-asked.new.core.store c.settle-ended.new.core.store
     c.self.inside.core.standings c.ask_ready-asked.new.core.standings c.settle-ended.new.core.standings c.self.inside.end c.self.inside.commits c.ask_ready-asked.result c.self.invariant.0 none asked c.settle-ended.result.0 c.settle-ended.ensures.resolves c.settle-ended.ensures.coherent.keeps c.settle-ended.result.1 c.settle-ended.ensures.ended in
-    (all.outcomes, all.count, rw (← c.self.view_is, c.note_end.ensures) all.rounds)
+    record {
+      rounds = (all.outcomes, all.count, rw (← c.self.view_is, c.note_end.ensures) all.rounds);
+      few = c.ask_ready-asked.ensures.most;
+      stuck = grind (arith, common_steps);
+    }
 
 pub assure_valid-requires : goal.assure_valid-requires
 assure_valid-requires g c = search sendable
@@ -59,6 +63,3 @@ pub ask_ready-asked-requires-clause-slots : goal.ask_ready-asked-requires-clause
 ask_ready-asked-requires-clause-slots g c κs within =
     let sound = c.self.invariant.0 in
     rw c.as_slice.ensures.value (omega (arith, sound.keeps.one_each, sound.many_bodies, length-map c.self.inside.bodies.items (option_map g.B.Body.card)))
-
-pub returns-clause-stuck : goal.returns-clause-stuck
-returns-clause-stuck g c = grind (arith, common_steps)
