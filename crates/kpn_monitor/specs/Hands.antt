@@ -1,8 +1,10 @@
 -- Several tasks and their answers, one after the other.
-use Rattle.std.specs.Prelude.{◌≡◌, ◌⊎◌, ℕ, List, [], ◌∷◌, Option, set}
+use Rattle.std.specs.Prelude.{◌≡◌, ◌⊎◌, ℕ, ◌+◌, ◌<◌, ◌≤◌, Bool, List, [], ◌∷◌, ◌++◌, Option, set}
+use Rattle.std.specs.List.{All}
 use Rattle.kpn_model.specs.declared.token.Token.{Token}
 use Rattle.kpn_model.specs.declared.kinds.Card.{Card}
 use Rattle.kpn_model.specs.declared.kinds.Answer.{Answer}
+use Rattle.kpn_model.specs.declared.history.End.{End}
 use Rattle.kpn_model.specs.Network.{Family, Network}
 use Rattle.kpn_body.specs.Input.{Input, answer_to}
 use Rattle.kpn_state.specs.declared.standing.Standing.TheVariants.{Ready}
@@ -11,7 +13,8 @@ use Rattle.kpn_machine.specs.MachineView.{MachineView, IsOut, TakesOut}
 use Rattle.kpn_machine.specs.Commits.{Commits, Appends, entries_appended}
 use Rattle.kpn_monitor.specs.declared.guarded.Went.{Went}
 use Rattle.kpn_monitor.specs.declared.guarded.Went.TheVariants.{On, Nowhere, Over}
-use Rattle.kpn_monitor.specs.Kept.{WasCommitted}
+use Rattle.kpn_monitor.specs.Views.{Shares}
+use Rattle.kpn_monitor.specs.Kept.{FoundNothing, HasEnded, WasCommitted, WasTaken}
 
 -- the answers to the first tasks, in order
 abbrev pub AreAnswers : Family → List Input → List Answer → Type 0
@@ -54,8 +57,29 @@ WereCommitted kinds admits net tasks [] left = left ≡ tasks
 WereCommitted kinds admits net [] (o ∷ outcomes) left = ⊥
 WereCommitted kinds admits net (i ∷ tasks) (o ∷ outcomes) left = WasCommitted kinds admits net i o × WereCommitted kinds admits net tasks outcomes left
 
+-- more tasks go out, behind those in a hand; all were taken if those were
+pub record Deals (kinds : Family) (admits : Card → List ℕ → Option Token → Type 0) (net : Network) (s : MachineView) (old : List Input) (t : MachineView) (new : List Input) : Type 0 where
+  pub out : (more : List Input) × (new ≡ old ++ more) × TakesOutAll s more t
+  pub taken : All (WasTaken kinds admits net) old → All (WasTaken kinds admits net) new
+
+-- the machine takes this answer with this outcome, and the seat's share grows by the new entries
+pub record CommitsAnswer (kinds : Family) (admits : Card → List ℕ → Option Token → Type 0) (net : Network) (s : MachineView) (old : Shares) (i : Input) (t : MachineView) (new : Shares) (o : Outcome) : Type 0 where
+  pub commits : Commits kinds s i o t
+  pub appends : Appends kinds s t (entries_appended o)
+  pub seat : new ≡ record old { entries = old.entries + entries_appended o }
+  pub committed : WasCommitted kinds admits net i o
+
 -- how many answers were taken in place
 abbrev pub answers_of : Went → ℕ
 answers_of (On n waited) = n
 answers_of Nowhere = 0
 answers_of (Over e) = 0
+
+-- asked in place at most this many times, a machine of this network went so, and the seat with it
+pub record AsksInPlace (kinds : Family) (admits : Card → List ℕ → Option Token → Type 0) (net : Network) (most : ℕ) (old new : Shares) (went : Went) : Type 0 where
+  pub parts : new.parts ≡ old.parts
+  pub on : (n : ℕ) (w : Bool) → went ≡ On n w → (0 < n) × (n ≤ most) × (new.overs ≡ old.overs)
+  pub nowhere : went ≡ Nowhere → new ≡ old
+  pub found : went ≡ Nowhere → 0 < most → FoundNothing kinds admits net
+  pub over : (e : End) → went ≡ Over e → new ≡ record old { overs = 1 }
+  pub ended : (e : End) → went ≡ Over e → HasEnded kinds admits net e

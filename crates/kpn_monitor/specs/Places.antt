@@ -1,5 +1,5 @@
 -- Tasks in places, some of them free.
-use Rattle.std.specs.Prelude.{◌≡◌, ℕ, ◌+◌, ◌≤◌, List, [], ◌∷◌, ◌++◌, Option, Some, None, length, drop, take}
+use Rattle.std.specs.Prelude.{◌≡◌, ℕ, ◌+◌, ◌<◌, ◌≤◌, List, [], ◌∷◌, ◌++◌, Option, Some, None, length, drop, take, slice_get}
 use Rattle.std.specs.List.{All}
 use Rattle.kpn_model.specs.declared.token.Token.{Token}
 use Rattle.kpn_model.specs.declared.kinds.Card.{Card}
@@ -7,7 +7,7 @@ use Rattle.kpn_model.specs.declared.kinds.Answer.{Answer}
 use Rattle.kpn_model.specs.Network.{Family}
 use Rattle.kpn_body.specs.Input.{Input}
 use Rattle.kpn_commit.specs.declared.outcome.Outcome.{Outcome}
-use Rattle.kpn_machine.specs.MachineView.{MachineView}
+use Rattle.kpn_machine.specs.MachineView.{MachineView, IsOut}
 use Rattle.kpn_machine.specs.Commits.{Commits, Appends, entries_appended}
 use Rattle.kpn_monitor.specs.Views.{Placed}
 use Rattle.kpn_monitor.specs.Kept.{WasCommitted, WasTaken}
@@ -35,6 +35,12 @@ pub record IsLaidOut (kinds : Family) (places : List (Option Input)) (answers : 
   pub again : AreTaken (take kept places)
   pub tasks : AreTaken (drop given places)
   pub answered : AreAnswers kinds (tasks_in (drop given places)) (drop given answers)
+
+-- there is a first answer, a machine asked for it, and its outcome has room
+pub record HasFirst (s : MachineView) (p : Placed) : Type 0 where
+  pub called : 0 < p.called
+  pub out : (i : Input) → slice_get p.tasks 0 ≡ Some i → IsOut s i
+  pub room : length p.outcomes < 64
 
 -- the first answer was given to a machine; its process may have gone out again
 pub record GivesFirst (kinds : Family) (admits : Card → List ℕ → Option Token → Type 0) (s : MachineView) (p : Placed) (t : MachineView) (q : Placed) : Type 0 where

@@ -1,6 +1,8 @@
 -- What contracts see of the monitor's types.
-use Rattle.std.specs.Prelude.{ℕ, List}
+use Rattle.std.specs.Prelude.{◌≡◌, ℕ, List}
+use Rattle.std.specs.declared.sync.ledger.Ledger.{Ghosts as LedgerNames}
 use Rattle.atomic_table.specs.Seated.{TableId}
+use Rattle.kpn_model.specs.Network.{Network}
 use Rattle.kpn_body.specs.Input.{Input}
 use Rattle.kpn_commit.specs.declared.outcome.Outcome.{Outcome}
 use Rattle.kpn_machine.specs.MachineView.{MachineView}
@@ -22,6 +24,17 @@ pub record Unopened : Type 0 where
   pub board : TableId
   pub entries : LedgerOf
   pub overs : LedgerOf
+
+-- what the type of an entry ledger names
+abbrev pub RunNames : Type 0
+RunNames = record { name : ℕ; parts : ℕ; net : Network; board : TableId }
+
+-- these are the names of the opening's network, board and ledgers
+pub record AreNamesOf {O : Type 0} (run : RunNames) (overs : LedgerNames O) (opening : Unopened) : Type 0 where
+  pub network : opening.machine.network ≡ run.net
+  pub board : opening.board ≡ run.board
+  pub entries : (opening.entries.name ≡ run.name) × (opening.entries.parts ≡ run.parts)
+  pub overs_are : (opening.overs.name ≡ overs.name) × (opening.overs.parts ≡ overs.parts)
 
 -- a closed monitor, and a watched run
 pub record ClosedView : Type 0 where

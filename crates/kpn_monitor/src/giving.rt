@@ -7,7 +7,7 @@ ghost use Rattle.kpn_machine.specs.MachineView.{IsOut};
 ghost use Rattle.kpn_machine.specs.Commits.{Commits, Appends, entries_appended};
 ghost use Rattle.kpn_monitor.specs.Kept.{WasCommitted, WasTaken};
 ghost use Rattle.kpn_monitor.specs.Hands.{Gives, TakesBackAll, WereCommitted};
-ghost use Rattle.kpn_monitor.specs.Places.{GivesFirst};
+ghost use Rattle.kpn_monitor.specs.Places.{GivesFirst, HasFirst};
 
 use crate::places::Places;
 use kpn_body::{Body, Finished};
@@ -29,12 +29,12 @@ pub(crate) fn give_one<B: Body, H: Keeper>(
     machine.commit_asked(finished)
 }
 
-/// Not inlined, to keep it out of the way of the answers after which processes go out again.
+/// Commits the first answer. Its process does not go out again.
+///
+/// Not inlined, to keep it out of the way of the answers after which processes do.
 #[inline(never)]
-fn give_up<B: Body, H: Keeper>(machine: &mut Machine<B, H>, places: &mut Places<B>)
-    requires called { 0 < places.old.called }
-    requires out { (i : Input) → slice_get places.old.tasks 0 ≡ Some i → IsOut machine.old i }
-    requires room { length places.old.outcomes < 64 }
+fn give_and_leave<B: Body, H: Keeper>(machine: &mut Machine<B, H>, places: &mut Places<B>)
+    requires { HasFirst machine.old places.old }
     ensures gave { GivesFirst (family B.Kinds.Kinds) B.Kinds.admits machine.old places.old machine.new places.new }
     ensures again { places.new.again ≡ places.old.again }
 {
@@ -45,9 +45,7 @@ fn give_up<B: Body, H: Keeper>(machine: &mut Machine<B, H>, places: &mut Places<
 /// Commits the first answer. Its process goes out again at once if it can and fewer than `keep` have.
 #[inline(always)]
 fn give_first<B: Body, H: Keeper>(machine: &mut Machine<B, H>, places: &mut Places<B>, keep: usize)
-    requires called { 0 < places.old.called }
-    requires out { (i : Input) → slice_get places.old.tasks 0 ≡ Some i → IsOut machine.old i }
-    requires room { length places.old.outcomes < 64 }
+    requires { HasFirst machine.old places.old }
     ensures gave { GivesFirst (family B.Kinds.Kinds) B.Kinds.admits machine.old places.old machine.new places.new }
     ensures most { length places.old.again ≤ keep → length places.new.again ≤ keep }
 {
@@ -58,7 +56,7 @@ fn give_first<B: Body, H: Keeper>(machine: &mut Machine<B, H>, places: &mut Plac
             return;
         }
     }
-    give_up(machine, places);
+    give_and_leave(machine, places);
 }
 
 /// Commits the answers, one after the other. At most `keep` processes that can continue go out again at once.

@@ -13,7 +13,7 @@ ghost use Rattle.kpn_model.specs.Determinacy.{IsRun};
 ghost use Rattle.kpn_watch.specs.declared.progress.Phase.TheVariants.{Running};
 ghost use Rattle.kpn_watch.specs.Phases.{phase_of};
 ghost use Rattle.kpn_monitor.specs.Kept.{IsShown, HasEnded, WasCommitted, WasTaken, WentRounds, FoundNothing};
-ghost use Rattle.kpn_monitor.specs.Hands.{TakesOutAll, GivesBack, Gives, WereCommitted, answers_of};
+ghost use Rattle.kpn_monitor.specs.Hands.{AsksInPlace, CommitsAnswer, Deals, TakesOutAll, GivesBack, Gives, WereCommitted, answers_of};
 ghost use Rattle.kpn_body.specs.Input.{Input};
 ghost use Rattle.kpn_commit.specs.declared.outcome.Outcome.{Outcome as OutcomeV};
 ghost use Rattle.kpn_machine.specs.MachineView.{MachineView, IsFaithful, IsFresh, IsOut, TakesOut};
@@ -159,9 +159,7 @@ impl<B: Body, E: EntryLedger, O: Ledger, H: Keeper> Guarded<B, E, O, H> {
         seat: &mut Seat<E, O>,
     ) -> Result<Outcome, Stranger<B>>
         requires { board.now ≡ E.board }
-        ensures machine { MatchResult result (λ o. Commits (family B.Kinds.Kinds) self.old.machine finished o self.new.machine × Appends (family B.Kinds.Kinds) self.old.machine self.new.machine (entries_appended o)) (λ s. (self.new ≡ self.old) × (s.finished ≡ finished)) }
-        ensures seat { MatchResult result (λ o. seat.new ≡ record seat.old { entries = seat.old.entries + entries_appended o }) (λ _. seat.new ≡ seat.old) }
-        ensures committed { IfOk result (λ o. WasCommitted (family B.Kinds.Kinds) B.Kinds.admits E.net finished o) }
+        ensures { MatchResult result (CommitsAnswer (family B.Kinds.Kinds) B.Kinds.admits E.net self.old.machine seat.old finished self.new.machine seat.new) (λ s. (self.new ≡ self.old) × (seat.new ≡ seat.old) × (s.finished ≡ finished)) }
     {
         if !self.machine.has_asked(&finished) {
             return Err(Stranger { finished });
@@ -232,8 +230,7 @@ impl<B: Body, E: EntryLedger, O: Ledger, H: Keeper> Guarded<B, E, O, H> {
         requires few { length hand.old.tasks ≤ most }
         requires called { hand.old.called ≡ 0 }
         requires wanted { (wanted ≤ 64) × (1 ≤ most → wanted ≤ most) }
-        ensures out { (more : List Input) × (hand.new.tasks ≡ hand.old.tasks ++ more) × TakesOutAll self.old.machine more self.new.machine }
-        ensures taken { All (WasTaken (family B.Kinds.Kinds) B.Kinds.admits E.net) hand.old.tasks → All (WasTaken (family B.Kinds.Kinds) B.Kinds.admits E.net) hand.new.tasks }
+        ensures deals { Deals (family B.Kinds.Kinds) B.Kinds.admits E.net self.old.machine hand.old.tasks self.new.machine hand.new.tasks }
         ensures rest { (hand.new.called ≡ 0) × (hand.new.outcomes ≡ hand.old.outcomes) }
         ensures most { length hand.new.tasks ≤ most }
         ensures tasks { result ≡ Next.Tasks → (seat.new ≡ seat.old) × (0 < length hand.new.tasks) }
@@ -306,12 +303,8 @@ impl<B: Body, E: EntryLedger, O: Ledger, H: Keeper> Guarded<B, E, O, H> {
         requires { board.now ≡ E.board }
         ensures machine { ContinuesRun (family B.Kinds.Kinds) self.old.machine self.new.machine }
         ensures went { (outcomes : List OutcomeV) × (length outcomes ≡ answers_of result) × (seat.new.entries ≡ seat.old.entries + sum_by entries_appended outcomes) × GoesRounds (family B.Kinds.Kinds) self.old.machine outcomes self.new.machine × WentRounds (family B.Kinds.Kinds) B.Kinds.admits E.net outcomes }
-        ensures parts { seat.new.parts ≡ seat.old.parts }
-        ensures on { (n : ℕ) (w : Bool) → result ≡ Went.On n w → (0 < n) × (n ≤ most) × (seat.new.overs ≡ seat.old.overs) }
-        ensures nowhere { result ≡ Went.Nowhere → seat.new ≡ seat.old }
-        ensures found { result ≡ Went.Nowhere → 0 < most → FoundNothing (family B.Kinds.Kinds) B.Kinds.admits E.net }
-        ensures over { (e : EndV) → result ≡ Went.Over e → (seat.new ≡ record seat.old { overs = 1 }) × (self.new.machine.end ≡ Some e) }
-        ensures ended { (e : EndV) → result ≡ Went.Over e → HasEnded (family B.Kinds.Kinds) B.Kinds.admits E.net e }
+        ensures seat { AsksInPlace (family B.Kinds.Kinds) B.Kinds.admits E.net most seat.old seat.new result }
+        ensures over { (e : EndV) → result ≡ Went.Over e → self.new.machine.end ≡ Some e }
     {
         self.machine.assure_faithful();
         let before = self.machine.entries();
@@ -339,8 +332,7 @@ impl<B: Body, E: EntryLedger, O: Ledger, H: Keeper> Guarded<B, E, O, H> {
     fn deal_more(&mut self, hand: &mut Hand<B>, wanted: usize)
         requires some { 0 < length hand.old.tasks }
         requires room { wanted ≤ 64 }
-        ensures out { (more : List Input) × (hand.new.tasks ≡ hand.old.tasks ++ more) × TakesOutAll self.old.machine more self.new.machine }
-        ensures taken { All (WasTaken (family B.Kinds.Kinds) B.Kinds.admits E.net) hand.old.tasks → All (WasTaken (family B.Kinds.Kinds) B.Kinds.admits E.net) hand.new.tasks }
+        ensures deals { Deals (family B.Kinds.Kinds) B.Kinds.admits E.net self.old.machine hand.old.tasks self.new.machine hand.new.tasks }
         ensures some { 0 < length hand.new.tasks }
         ensures many { (n : ℕ) → length hand.old.tasks ≤ n → wanted ≤ n → length hand.new.tasks ≤ n }
         ensures rest { (hand.new.called ≡ hand.old.called) × (hand.new.outcomes ≡ hand.old.outcomes) }

@@ -11,7 +11,7 @@ ghost use Rattle.kpn_watch.specs.Shown.{shows};
 ghost use Rattle.kpn_body.specs.Input.{Input};
 ghost use Rattle.kpn_commit.specs.declared.outcome.Outcome.{Outcome as OutcomeV};
 ghost use Rattle.kpn_machine.specs.Commits.{entries_appended};
-ghost use Rattle.kpn_monitor.specs.Views.{Shares};
+ghost use Rattle.kpn_monitor.specs.Views.{AreNamesOf, Shares};
 ghost use Rattle.kpn_monitor.specs.Kept.{AddUp, FoundNothing, HasEnded, IsClosed, WasCommitted, WasTaken, WentRounds};
 ghost use Rattle.kpn_monitor.specs.Hands.{WereCommitted, answers_of};
 
@@ -77,10 +77,7 @@ impl<B: Body, E: EntryLedger, O: Ledger, H: Keeper> Monitor<B, E, O, H> {
     /// Makes the monitor of an opening, and a seat with all parts and empty shares. The types must name the
     /// opening's network, board and ledgers. Takes no memory.
     pub fn open(opening: Opening<B, H>) -> (Monitor<B, E, O, H>, Seat<E, O>)
-        requires network { opening.machine.network ≡ E.net }
-        requires board { opening.board ≡ E.board }
-        requires entries { (opening.entries.name ≡ E.name) × (opening.entries.parts ≡ E.parts) }
-        requires overs { (opening.overs.name ≡ O.name) × (opening.overs.parts ≡ O.parts) }
+        requires { AreNamesOf E.EntryLedger O.Ledger opening }
         ensures { result.1 ≡ record { parts = 65536; entries = 0; overs = 0 } }
     {
         let OpeningParts {
@@ -150,10 +147,10 @@ impl<B: Body, E: EntryLedger, O: Ledger, H: Keeper> Monitor<B, E, O, H> {
         answer
     }
 
-    /// Commits the answers of a hand, each like `commit`, and then takes at most `most` tasks, holding the
-    /// lock once. All tasks of the hand must have been called. Waits only for the lock. A process that can
-    /// continue goes out again at once, with its next task in the hand, if the hand's share has room beside
-    /// the ready processes.
+    /// Commits the answers of a hand, in order, publishes what is new at once, and fills the hand with at most
+    /// `most` tasks, holding the lock once. All tasks of the hand must have been called. Waits only for this
+    /// lock, and at the end of the run for that of the resting threads. A process that can continue goes out
+    /// again at once, with its next task in the hand, if the hand's share has room beside the ready processes.
     ///
     /// The seat's share of entries grows by the number of new entries. Afterwards the hand has a task; or
     /// none, because no process was ready or `most` is 0; or the run has ended, and the share of overs is 1.
@@ -198,7 +195,7 @@ impl<B: Body, E: EntryLedger, O: Ledger, H: Keeper> Monitor<B, E, O, H> {
         }
     }
 
-    /// Asks ready processes in place, and takes each answer like `commit`, until `most` answers were taken,
+    /// Asks ready processes in place, and commits each answer, until `most` answers were taken,
     /// no process is ready or the run has ended. Calls the bodies under the lock, so they must be quick, and
     /// must not wait for another body: that could be forever.
     ///

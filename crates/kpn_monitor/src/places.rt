@@ -3,8 +3,8 @@ ghost use Rattle.std.specs.Prelude.{◌≡◌, ◌+◌, ◌<◌, ◌≤◌, ℕ,
 ghost use Rattle.kpn_model.specs.Families.{family};
 ghost use Rattle.kpn_body.specs.Input.{Input};
 ghost use Rattle.kpn_commit.specs.declared.outcome.Outcome.{Outcome as OutcomeV};
-ghost use Rattle.kpn_machine.specs.MachineView.{IsOut};
 ghost use Rattle.kpn_machine.specs.Commits.{CommitsOn};
+ghost use Rattle.kpn_monitor.specs.Places.{HasFirst};
 
 use kpn_body::{Body, Finished, Task};
 use kpn_machine::{Machine, Outcome};
@@ -156,9 +156,7 @@ impl<B: Body> Places<B> {
     /// its read or write can be done, and the run continues. Otherwise returns false.
     #[inline(always)]
     pub(crate) fn stay<H: Keeper>(&mut self, machine: &mut Machine<B, H>) -> bool
-        requires called { 0 < self.old.called }
-        requires out { (i : Input) → slice_get self.old.tasks 0 ≡ Some i → IsOut machine.old i }
-        requires room { length self.old.outcomes < 64 }
+        requires { HasFirst machine.old self.old }
         ensures stays { result ≡ true → (i j : Input) × (o : OutcomeV) × (rest : List Input) × (self.old.tasks ≡ i ∷ rest) × (self.new ≡ record { again = self.old.again ++ j ∷ []; tasks = rest; called = self.new.called; given = self.new.given; outcomes = self.old.outcomes ++ o ∷ [] }) × (self.old.called ≡ self.new.called + 1) × CommitsOn (family B.Kinds.Kinds) machine.old i o j machine.new }
         ensures same { result ≡ false → (self.new ≡ self.old) × (machine.new ≡ machine.old) }
     {

@@ -1,9 +1,12 @@
 -- The end and the report of a watched run.
-use Rattle.std.specs.Prelude.{◌≡◌, ℕ, List, Option, Some}
+use Rattle.std.specs.Prelude.{◌≡◌, ℕ, List, Option, Some, map}
 use Rattle.kpn_model.specs.declared.token.Token.{Token}
 use Rattle.kpn_model.specs.declared.kinds.Card.{Card}
 use Rattle.kpn_model.specs.declared.history.End.{End}
 use Rattle.kpn_model.specs.Network.{Family, Network}
+use Rattle.kpn_machine.specs.declared.opening.OpenFault.{OpenFault}
+use Rattle.kpn_machine.specs.declared.opening.OpenFault.TheVariants.{Memory}
+use Rattle.kpn_machine.specs.Opening.{cards_of}
 use Rattle.kpn_machine.specs.MachineView.{MachineView}
 use Rattle.kpn_report.specs.declared.detail.Detail.{Detail}
 use Rattle.kpn_report.specs.Reported.{IsReport}
@@ -30,3 +33,9 @@ pub record IsReportOf (kinds : Family) (s : MachineView) (cause end : End) (deta
   pub every : IsEveryRuns kinds s.network cause detail
   pub any_capacities : IsOutcome kinds s.network cause s.history detail
   pub streams : TellsLeastSolution kinds s.network cause detail
+
+-- out of memory: a machine's network is returned, and bodies with its cards
+pub record LacksMemory {B : Type 0} (card : B → Card) (net same : Network) (back : List B) (fault : OpenFault) : Type 0 where
+  pub net_is : same ≡ net
+  pub cards_are : map card back ≡ cards_of net.processes
+  pub fault_is : fault ≡ Memory

@@ -8,10 +8,10 @@ ghost use Rattle.kpn_machine.specs.Commits.{entries_appended};
 ghost use Rattle.kpn_machine.specs.Opening.{cards_of, IsOpenFault};
 ghost use Rattle.kpn_laws.specs.RoomOfRun.{TakesLeastRoom};
 ghost use Rattle.kpn_laws.specs.StreamsOfRun.{ApproachLeastSolution};
-ghost use Rattle.kpn_monitor.specs.Views.{Shares};
+ghost use Rattle.kpn_monitor.specs.Views.{AreNamesOf, Shares};
 ghost use Rattle.kpn_monitor.specs.Kept.{HasEnded, IsClosed, WasCommitted, WasTaken};
 ghost use Rattle.kpn_run.specs.Runs.{IsComparable, StaysWithinCapacities};
-ghost use Rattle.kpn_observe.specs.WatchedReports.{EndSparesBudget, IsWatchedRun};
+ghost use Rattle.kpn_observe.specs.WatchedReports.{EndSparesBudget, IsWatchedRun, LacksMemory};
 
 use crate::running::told_by_laws;
 use crate::watched::WatchedRun;
@@ -125,6 +125,15 @@ impl<E: EntryLedger, O: Ledger> CrewSeat<E, O> {
     }
 }
 
+/// All seats of a run by a crew: the crew's, the one with the remaining parts, and room for all of them when
+/// the crew is done.
+#[derive(Drop)]
+struct CrewSeats<E: EntryLedger, O: Ledger> {
+    crewed: Vec<CrewSeat<E, O>>,
+    rest: Seat<E, O>,
+    room: Vec<Seat<E, O>>,
+}
+
 /// What the caller's own threads do. The type of their monitor names the run (`E` and `O`), so the method is
 /// generic over the names.
 ///
@@ -203,9 +212,7 @@ fn run_opened<B: Body, R: Threads + Sync, C: Crew<B>>(
     crew: &C,
 ) -> Result<WatchedRun<B::Kinds>, OpenRefused<B>>
     ensures run { IfOk result (IsWatchedRun (family B.Kinds.Kinds) B.Kinds.admits opening.machine.network) }
-    ensures net_back { IfErr result (λ refused. refused.net ≡ opening.machine.network) }
-    ensures cards_back { IfErr result (λ refused. map B.card refused.bodies.items ≡ cards_of opening.machine.network.processes) }
-    ensures fault { IfErr result (λ refused. refused.fault ≡ OpenFault.Memory) }
+    ensures refused { IfErr result (λ refused. LacksMemory B.card opening.machine.network refused.net refused.bodies.items refused.fault) }
 {
     let ran = run_named::<B, Brand, Brand, R, C>(rt, alloc, opening, seats, crew)?;
     told_by_laws(&ran);
@@ -226,14 +233,9 @@ fn run_named<
     seats: u16,
     crew: &C,
 ) -> Result<WatchedRun<B::Kinds>, OpenRefused<B>>
-    requires network { opening.machine.network ≡ E.net }
-    requires board { opening.board ≡ E.board }
-    requires entries { (opening.entries.name ≡ E.name) × (opening.entries.parts ≡ E.parts) }
-    requires overs { (opening.overs.name ≡ O.name) × (opening.overs.parts ≡ O.parts) }
+    requires names { AreNamesOf E.EntryLedger O.Ledger opening }
     ensures closed { IfOk result (IsClosed (family B.Kinds.Kinds) B.Kinds.admits E.net) }
-    ensures net_back { IfErr result (λ refused. refused.net ≡ opening.machine.network) }
-    ensures cards_back { IfErr result (λ refused. map B.card refused.bodies.items ≡ cards_of opening.machine.network.processes) }
-    ensures fault { IfErr result (λ refused. refused.fault ≡ OpenFault.Memory) }
+    ensures refused { IfErr result (λ refused. LacksMemory B.card opening.machine.network refused.net refused.bodies.items refused.fault) }
 {
     let count = usize::from(seats);
     let Ok(crewed) = Vec::with_capacity(alloc, count) else {
@@ -245,7 +247,12 @@ fn run_named<
     let (monitor, mut rest) = Monitor::<B, E, O>::open(opening);
     let mut crewed = crewed;
     split_all(&mut rest, count, &mut crewed);
-    Ok(run_seated(rt, monitor, rest, crewed, all, crew))
+    let seats = CrewSeats {
+        crewed,
+        rest,
+        room: all,
+    };
+    Ok(run_seated(rt, monitor, seats, crew))
 }
 
 fn split_all<E: EntryLedger, O: Ledger>(
@@ -280,20 +287,18 @@ fn run_seated<
     O: Ledger + Send + Sync,
     R: Threads + Sync,
     C: Crew<B>,
->(
-    rt: &R,
-    monitor: Monitor<B, E, O>,
-    rest: Seat<E, O>,
-    crewed: Vec<CrewSeat<E, O>>,
-    mut seats: Vec<Seat<E, O>>,
-    crew: &C,
-) -> WatchedRun<B::Kinds>
-    requires parts { length crewed.items + rest.parts ≡ 65536 }
-    requires seats { (seats.items ≡ []) × (length crewed.items < vec_capacity seats) }
+>(rt: &R, monitor: Monitor<B, E, O>, seats: CrewSeats<E, O>, crew: &C) -> WatchedRun<B::Kinds>
+    requires parts { length seats.crewed.items + seats.rest.parts ≡ 65536 }
+    requires room { (seats.room.items ≡ []) × (length seats.crewed.items < vec_capacity seats.room) }
     ensures { IsClosed (family B.Kinds.Kinds) B.Kinds.admits E.net result }
 {
-    let mut crewed = crewed;
+    let CrewSeats {
+        mut crewed,
+        rest,
+        room,
+    } = seats;
     work_all(rt, &monitor, &mut crewed, crew);
+    let mut seats = room;
     gather(rest, crewed, &mut seats);
     match monitor.close(seats) {
         Ok(closed) => WatchedRun::of(closed),

@@ -39,18 +39,28 @@ pub trait Observer: Sync {
     fn see(&self, progress: Progress) -> Wish;
 }
 
+/// An observer, the watcher that shows it the run, and how often it is called.
+#[derive(Drop)]
+pub(crate) struct Observation<'a, V: Observer> {
+    pub(crate) observer: &'a V,
+    pub(crate) watcher: Watcher,
+    pub(crate) period: Duration,
+}
+
 /// Calls the observer once per period, and once more when the workers are done.
 pub(crate) fn observe<B: Body, H: Keeper, E: EntryLedger, O: Ledger, R: Wait + Clock, V: Observer>(
     rt: &R,
     monitor: &Monitor<B, E, O, H>,
-    watcher: Watcher,
+    observation: Observation<'_, V>,
     bell: &Bell,
-    period: Duration,
-    observer: &V,
 )
-    requires { watcher.board ≡ E.board }
+    requires { observation.watcher.board ≡ E.board }
 {
-    let mut watcher = watcher;
+    let Observation {
+        observer,
+        mut watcher,
+        period,
+    } = observation;
     for _ in rt.forever() {
         let is_done = bell.wait(rt, period);
         let progress = look(monitor, &mut watcher);

@@ -1,19 +1,20 @@
 //! Runs a network with workers beside an observer.
-ghost use Rattle.std.specs.Prelude.{◌≡◌, ◌≢◌, ◌<◌, ◌≤◌, ◌⊎◌, map, Err, IfOk, OnOk};
+ghost use Rattle.std.specs.Prelude.{◌≡◌, ◌≢◌, ◌<◌, ◌≤◌, ◌⊎◌, map, Err, IfErr, IfOk, OnOk};
 ghost use Rattle.kpn_model.specs.Network.{Network as NetV};
 ghost use Rattle.kpn_model.specs.Families.{family};
 ghost use Rattle.kpn_machine.specs.declared.opening.OpenFault.{OpenFault as OpenFaultV};
 ghost use Rattle.kpn_machine.specs.Opening.{cards_of, IsOpenFault};
 ghost use Rattle.kpn_laws.specs.RoomOfRun.{TakesLeastRoom};
 ghost use Rattle.kpn_laws.specs.StreamsOfRun.{ApproachLeastSolution};
+ghost use Rattle.kpn_monitor.specs.Views.{AreNamesOf};
 ghost use Rattle.kpn_monitor.specs.Kept.{IsClosed};
 ghost use Rattle.kpn_body.specs.Input.{Input};
-ghost use Rattle.kpn_run.specs.Refusals.{IsHandedBack};
+ghost use Rattle.kpn_run.specs.Refusals.{FailsOpened, HandsBack};
 ghost use Rattle.kpn_run.specs.Runs.{IsComparable, StaysWithinCapacities};
 ghost use Rattle.kpn_observe.specs.WatchedReports.{EndSparesBudget, IsWatchedRun};
 
 use crate::bell::Bell;
-use crate::observer::{Observer, Wish, observe};
+use crate::observer::{Observation, Observer, Wish, observe};
 use crate::watched::WatchedRun;
 use kpn_body::{Answered, Body};
 use kpn_laws::{determinacy_of, least_room_of, least_solution_of, valid_runs};
@@ -22,11 +23,11 @@ use kpn_model::Kinds;
 use kpn_monitor::{EntryLedger, Monitor, Opening};
 use kpn_network::Net;
 use kpn_run::Gate;
-use kpn_run::starting::{Failure, lost, may_work, no_memory, not_run, opening_of};
+use kpn_run::starting::{Failure, RunRequest, lost, may_work, no_memory, not_run, opening_of};
 use kpn_run::stop_signal::Orders;
 use kpn_run::workforce::{Workforce, seat_workers};
 use kpn_state::{Keeper, Wide};
-use kpn_watch::{Phase, Progress, Watcher};
+use kpn_watch::{Phase, Progress};
 use std::alloc::Global;
 use std::marker::Brand;
 use std::rt::Clock;
@@ -168,7 +169,12 @@ pub fn run_watched_with_keeper<
         period,
         observer,
     };
-    match run_bodies(rt, alloc, net, bodies, workers, &watch) {
+    let request = RunRequest {
+        net,
+        bodies,
+        workers,
+    };
+    match run_bodies(rt, alloc, request, &watch) {
         Ok(ran) => Ok(ran),
         Err(failure) => Err(fault_of(failure)),
     }
@@ -209,17 +215,19 @@ fn stops_at_start<V: Observer>(observer: &V) -> bool {
 fn run_bodies<B: Body, H: Keeper + Send, R: Wait + Clock + Threads + Sync, G: Gate, V: Observer>(
     rt: &R,
     alloc: Global,
-    net: Net<B::Kinds>,
-    bodies: Vec<B>,
-    workers: usize,
+    request: RunRequest<B>,
     watch: &Watch<G, V>,
 ) -> Result<WatchedRun<B::Kinds, H>, Failure<B>>
-    requires { (0 < workers) × (workers ≤ 16) }
-    ensures run { IfOk result (IsWatchedRun (family B.Kinds.Kinds) B.Kinds.admits net) }
-    ensures cards { OnOk result (map B.card bodies.items ≡ cards_of net.processes) }
-    ensures not_run { (n : NetV) (bs : _) (fault : OpenFaultV) → result ≡ Err (Failure.NotRun n bs fault) → IsHandedBack B.card net bodies.items n bs.items fault }
-    ensures lost { (a : Input) (b : _) → result ≡ Err (Failure.Lost a b) → (map B.card bodies.items ≡ cards_of net.processes) × (B.card b ≡ a.card) }
+    requires { (0 < request.workers) × (request.workers ≤ 16) }
+    ensures run { IfOk result (IsWatchedRun (family B.Kinds.Kinds) B.Kinds.admits request.net) }
+    ensures cards { OnOk result (map B.card request.bodies.items ≡ cards_of request.net.processes) }
+    ensures failed { IfErr result (HandsBack B.card request.net request.bodies.items) }
 {
+    let RunRequest {
+        net,
+        bodies,
+        workers,
+    } = request;
     match opening_of::<B, H>(alloc, net, bodies) {
         Ok(opening) => run_opened(rt, alloc, opening, workers, watch),
         Err(refused) => Err(not_run(refused)),
@@ -235,8 +243,7 @@ fn run_opened<B: Body, H: Keeper + Send, R: Wait + Clock + Threads + Sync, G: Ga
 ) -> Result<WatchedRun<B::Kinds, H>, Failure<B>>
     requires workers { (0 < workers) × (workers ≤ 16) }
     ensures run { IfOk result (IsWatchedRun (family B.Kinds.Kinds) B.Kinds.admits opening.machine.network) }
-    ensures not_run { (n : NetV) (bs : _) (fault : OpenFaultV) → result ≡ Err (Failure.NotRun n bs fault) → (n ≡ opening.machine.network) × (map B.card bs.items ≡ cards_of opening.machine.network.processes) × (fault ≡ OpenFault.Memory) }
-    ensures lost { (a : Input) (b : _) → result ≡ Err (Failure.Lost a b) → B.card b ≡ a.card }
+    ensures failed { IfErr result (FailsOpened B.card opening.machine.network) }
 {
     match run_named::<B, H, Brand, Brand, R, G, V>(rt, alloc, opening, workers, watch) {
         Ok(ran) => {
@@ -276,13 +283,9 @@ fn run_named<
     watch: &Watch<G, V>,
 ) -> Result<WatchedRun<B::Kinds, H>, Failure<B>>
     requires workers { (0 < workers) × (workers ≤ 16) }
-    requires network { opening.machine.network ≡ E.net }
-    requires board { opening.board ≡ E.board }
-    requires entries { (opening.entries.name ≡ E.name) × (opening.entries.parts ≡ E.parts) }
-    requires overs { (opening.overs.name ≡ O.name) × (opening.overs.parts ≡ O.parts) }
+    requires names { AreNamesOf E.EntryLedger O.Ledger opening }
     ensures closed { IfOk result (IsClosed (family B.Kinds.Kinds) B.Kinds.admits E.net) }
-    ensures not_run { (n : NetV) (bs : _) (fault : OpenFaultV) → result ≡ Err (Failure.NotRun n bs fault) → (n ≡ opening.machine.network) × (map B.card bs.items ≡ cards_of opening.machine.network.processes) × (fault ≡ OpenFault.Memory) }
-    ensures lost { (a : Input) (b : _) → result ≡ Err (Failure.Lost a b) → B.card b ≡ a.card }
+    ensures failed { IfErr result (FailsOpened B.card opening.machine.network) }
 {
     let (monitor, workforce) = match seat_workers::<B, H, E, O, R>(rt, alloc, opening, workers) {
         Ok(seated) => seated,
@@ -316,7 +319,14 @@ fn work_watched<
         signal: &bell,
     };
     match monitor.watch(rt) {
-        Ok(watcher) => work_beside(rt, monitor, watch, &orders, watcher, workforce),
+        Ok(watcher) => {
+            let observation = Observation {
+                observer: watch.observer,
+                watcher,
+                period: watch.period,
+            };
+            work_beside(rt, monitor, &orders, observation, workforce)
+        }
         Err(_) => work_and_ring(rt, monitor, &orders, workforce),
     }
 }
@@ -332,27 +342,17 @@ fn work_beside<
 >(
     rt: &R,
     monitor: &Monitor<B, E, O, H>,
-    watch: &Watch<G, V>,
     orders: &Orders<G, Bell>,
-    watcher: Watcher,
+    observation: Observation<'_, V>,
     workforce: Workforce<B, E, O>,
 ) -> Workforce<B, E, O>
-    requires { watcher.board ≡ E.board }
+    requires { observation.watcher.board ≡ E.board }
 {
     let (_, workforce) = join(
         rt,
         || -> ()
-            requires { watcher.board ≡ E.board }
-        {
-            observe(
-                rt,
-                monitor,
-                watcher,
-                orders.signal,
-                watch.period,
-                watch.observer,
-            )
-        },
+            requires { observation.watcher.board ≡ E.board }
+        { observe(rt, monitor, observation, orders.signal) },
         || work_and_ring(rt, monitor, orders, workforce),
     );
     workforce

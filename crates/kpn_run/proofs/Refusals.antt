@@ -1,11 +1,14 @@
 -- What is handed back of a run that did not begin.
-use Rattle.std.proofs.Common.{◌≡◌, ◌∙◌, List, map, ap, sym, subst}
+use Rattle.std.proofs.Common.{◌≡◌, ◌≢◌, ◌∙◌, List, map, ap, refl, sym, subst, Vec, Global}
 use Rattle.kpn_model.specs.declared.kinds.Card.{Card}
 use Rattle.kpn_model.specs.Network.{Network}
+use Rattle.kpn_body.specs.Input.{Input}
 use Rattle.kpn_machine.specs.declared.opening.OpenFault.{OpenFault}
 use Rattle.kpn_machine.specs.declared.opening.OpenFault.TheVariants.{Memory}
 use Rattle.kpn_machine.specs.Opening.{cards_of, IsOpenFault}
-use Rattle.kpn_run.specs.Refusals.{IsHandedBack}
+use Rattle.kpn_run.specs.declared.starting.Failure.{Failure}
+use Rattle.kpn_run.specs.declared.starting.Failure.TheVariants.{NotRun, Lost}
+use Rattle.kpn_run.specs.Refusals.{IsHandedBack, HandsBack, FailsOpened}
 
 -- what was handed back is the same under other names
 pub as_same : {B : Type 0} (card : B → Card) (net : Network) (bodies given : List B) (n m : Network) (back returned : List B) (f e : OpenFault)
@@ -26,3 +29,26 @@ for_memory card net bodies m n back f fit m_is n_is cards f_is = record {
   bodies_are = λ other. absurd (other f_is);
   applies = subst (λ (x : OpenFault). IsOpenFault net.processes (map card bodies) x) (sym f_is) fit;
 }
+
+-- a machine that was opened is one of this network, and its bodies fit
+pub opened_back : {B K : Type 0} (card : B → Card) (net : Network) (bodies : List B) (m : Network) (failure : Failure B K) → map card bodies ≡ cards_of net.processes → m ≡ net → FailsOpened card m failure → HandsBack card net bodies failure
+opened_back card net bodies m (NotRun n back f) fit m_is failed = for_memory card net bodies m n back.items f fit m_is failed.0 failed.1 failed.2
+opened_back card net bodies m (Lost answered body) fit m_is failed = (fit, failed)
+
+-- the bodies are those that were given
+pub given_back : {B K : Type 0} (card : B → Card) (net : Network) (bodies given : List B) (failure : Failure B K) → bodies ≡ given → HandsBack card net bodies failure → HandsBack card net given failure
+given_back card net bodies given failure is back = subst (λ l. HandsBack card net l failure) is back
+
+-- a failure with its bodies in another vector
+pub unboxed_back : {B K : Type 0} (card : B → Card) (net : Network) (bodies : List B) (boxed failure : Failure B K)
+    → ((n : Network) (bs : Vec B Global) (f : OpenFault) → failure ≡ NotRun n bs f → (cs : Vec B Global) × (boxed ≡ NotRun n cs f) × (bs.items ≡ cs.items)) → ((a : Input) (b : B) → failure ≡ Lost a b → boxed ≡ Lost a b)
+    → HandsBack card net bodies boxed → HandsBack card net bodies failure
+unboxed_back card net bodies boxed (NotRun n bs f) not_run lost back =
+    let u = not_run n bs f refl in
+    as_same card net bodies bodies n n u.0.items bs.items f f (rw u.1 at back) refl refl u.2 refl
+unboxed_back card net bodies boxed (Lost a b) not_run lost back = rw (lost a b refl) at back
+
+-- the machine refused an answer
+pub lost_fails : {B K : Type 0} (card : B → Card) (net : Network) (failure : Failure B K) → ((n : Network) (bs : Vec B Global) (f : OpenFault) → failure ≢ NotRun n bs f) → ((a : Input) (b : B) → failure ≡ Lost a b → card b ≡ a.card) → FailsOpened card net failure
+lost_fails card net (NotRun n bs f) not_run lost = absurd (not_run n bs f refl)
+lost_fails card net (Lost a b) not_run lost = lost a b refl

@@ -1,20 +1,21 @@
 //! Runs a network with several workers.
-ghost use Rattle.std.specs.Prelude.{◌≡◌, ◌≢◌, ◌<◌, ◌≤◌, ◌⊎◌, [], length, map, vec_capacity, Err, IfOk, IsSome, OnOk};
+ghost use Rattle.std.specs.Prelude.{◌≡◌, ◌≢◌, ◌<◌, ◌≤◌, ◌⊎◌, [], length, map, vec_capacity, Err, IfErr, IfOk, IsSome, OnOk};
 ghost use Rattle.kpn_model.specs.Network.{Network as NetV};
 ghost use Rattle.kpn_model.specs.Families.{family};
 ghost use Rattle.kpn_machine.specs.declared.opening.OpenFault.{OpenFault as OpenFaultV};
 ghost use Rattle.kpn_machine.specs.Opening.{cards_of, IsOpenFault};
+ghost use Rattle.kpn_monitor.specs.Views.{AreNamesOf};
 ghost use Rattle.kpn_monitor.specs.Kept.{IsClosed};
 ghost use Rattle.kpn_laws.specs.RoomOfRun.{TakesLeastRoom};
 ghost use Rattle.kpn_laws.specs.StreamsOfRun.{ApproachLeastSolution};
 ghost use Rattle.kpn_run.specs.Runs.{IsFinish, IsFinishedRun, IsComparable, SparesBudget, StaysWithinCapacities};
-ghost use Rattle.kpn_run.specs.Refusals.{IsHandedBack};
+ghost use Rattle.kpn_run.specs.Refusals.{FailsOpened, HandsBack};
 ghost use Rattle.kpn_body.specs.Input.{Input};
 
 use crate::boxed::{BoxedBody, Boxes, box_all, unbox_all};
 use crate::finish::Finish;
 use crate::gate::Gate;
-use crate::starting::{Failure, lost, may_work, no_memory, not_run, opening_of};
+use crate::starting::{Failure, RunRequest, lost, may_work, no_memory, not_run, opening_of};
 use crate::stop_signal::{NeverStops, Orders};
 use crate::workforce::seat_workers;
 use kpn_body::{Answered, Body};
@@ -148,7 +149,12 @@ pub fn run_with_keeper<B: Body, H: Keeper + Send, R: Wait + Clock + Threads + Sy
     if !may_work(workers) {
         return Err(RunFault::Workers { net, bodies });
     }
-    match run_boxed(rt, alloc, net, bodies, workers, gate) {
+    let request = RunRequest {
+        net,
+        bodies,
+        workers,
+    };
+    match run_boxed(rt, alloc, request, gate) {
         Ok(finish) => Ok(finish),
         Err(failure) => Err(fault_of(failure)),
     }
@@ -173,23 +179,39 @@ fn fault_of<B: Body>(failure: Failure<B>) -> RunFault<B>
 fn run_boxed<B: Body, H: Keeper + Send, R: Wait + Clock + Threads + Sync, G: Gate>(
     rt: &R,
     alloc: Global,
-    net: Net<B::Kinds>,
-    bodies: Vec<B>,
-    workers: usize,
+    request: RunRequest<B>,
     gate: &G,
 ) -> Result<Finish<B::Kinds, H>, Failure<B>>
-    requires { (0 < workers) × (workers ≤ 16) }
-    ensures run { IfOk result (IsFinishedRun (family B.Kinds.Kinds) net) }
-    ensures cards { OnOk result (map B.card bodies.items ≡ cards_of net.processes) }
-    ensures not_run { (n : NetV) (bs : _) (fault : OpenFaultV) → result ≡ Err (Failure.NotRun n bs fault) → IsHandedBack B.card net bodies.items n bs.items fault }
-    ensures lost { (a : Input) (b : _) → result ≡ Err (Failure.Lost a b) → (map B.card bodies.items ≡ cards_of net.processes) × (B.card b ≡ a.card) }
+    requires { (0 < request.workers) × (request.workers ≤ 16) }
+    ensures run { IfOk result (IsFinishedRun (family B.Kinds.Kinds) request.net) }
+    ensures cards { OnOk result (map B.card request.bodies.items ≡ cards_of request.net.processes) }
+    ensures failed { IfErr result (HandsBack B.card request.net request.bodies.items) }
 {
+    let RunRequest {
+        net,
+        bodies,
+        workers,
+    } = request;
     match box_all(alloc, bodies) {
-        Ok(Boxes { boxed, spare }) => match run_bodies(rt, alloc, net, boxed, workers, gate) {
-            Ok(finish) => Ok(finish),
-            Err(failure) => Err(unboxed(failure, spare)),
-        },
-        Err(bodies) => run_bodies(rt, alloc, net, bodies, workers, gate),
+        Ok(Boxes { boxed, spare }) => {
+            let request = RunRequest {
+                net,
+                bodies: boxed,
+                workers,
+            };
+            match run_bodies(rt, alloc, request, gate) {
+                Ok(finish) => Ok(finish),
+                Err(failure) => Err(unboxed(failure, spare)),
+            }
+        }
+        Err(bodies) => {
+            let request = RunRequest {
+                net,
+                bodies,
+                workers,
+            };
+            run_bodies(rt, alloc, request, gate)
+        }
     }
 }
 
@@ -215,17 +237,19 @@ fn unboxed<B: Body>(failure: Failure<BoxedBody<B>>, spare: Vec<B>) -> Failure<B>
 fn run_bodies<B: Body, H: Keeper + Send, R: Wait + Clock + Threads + Sync, G: Gate>(
     rt: &R,
     alloc: Global,
-    net: Net<B::Kinds>,
-    bodies: Vec<B>,
-    workers: usize,
+    request: RunRequest<B>,
     gate: &G,
 ) -> Result<Finish<B::Kinds, H>, Failure<B>>
-    requires { (0 < workers) × (workers ≤ 16) }
-    ensures run { IfOk result (IsFinishedRun (family B.Kinds.Kinds) net) }
-    ensures cards { OnOk result (map B.card bodies.items ≡ cards_of net.processes) }
-    ensures not_run { (n : NetV) (bs : _) (fault : OpenFaultV) → result ≡ Err (Failure.NotRun n bs fault) → IsHandedBack B.card net bodies.items n bs.items fault }
-    ensures lost { (a : Input) (b : _) → result ≡ Err (Failure.Lost a b) → (map B.card bodies.items ≡ cards_of net.processes) × (B.card b ≡ a.card) }
+    requires { (0 < request.workers) × (request.workers ≤ 16) }
+    ensures run { IfOk result (IsFinishedRun (family B.Kinds.Kinds) request.net) }
+    ensures cards { OnOk result (map B.card request.bodies.items ≡ cards_of request.net.processes) }
+    ensures failed { IfErr result (HandsBack B.card request.net request.bodies.items) }
 {
+    let RunRequest {
+        net,
+        bodies,
+        workers,
+    } = request;
     match opening_of::<B, H>(alloc, net, bodies) {
         Ok(opening) => run_opened(rt, alloc, opening, workers, gate),
         Err(refused) => Err(not_run(refused)),
@@ -241,8 +265,7 @@ fn run_opened<B: Body, H: Keeper + Send, R: Wait + Clock + Threads + Sync, G: Ga
 ) -> Result<Finish<B::Kinds, H>, Failure<B>>
     requires workers { (0 < workers) × (workers ≤ 16) }
     ensures run { IfOk result (IsFinishedRun (family B.Kinds.Kinds) opening.machine.network) }
-    ensures not_run { (n : NetV) (bs : _) (fault : OpenFaultV) → result ≡ Err (Failure.NotRun n bs fault) → (n ≡ opening.machine.network) × (map B.card bs.items ≡ cards_of opening.machine.network.processes) × (fault ≡ OpenFault.Memory) }
-    ensures lost { (a : Input) (b : _) → result ≡ Err (Failure.Lost a b) → B.card b ≡ a.card }
+    ensures failed { IfErr result (FailsOpened B.card opening.machine.network) }
 {
     match run_named::<B, H, Brand, Brand, R, G>(rt, alloc, opening, workers, gate) {
         Ok(finish) => {
@@ -281,13 +304,9 @@ fn run_named<
     gate: &G,
 ) -> Result<Finish<B::Kinds, H>, Failure<B>>
     requires workers { (0 < workers) × (workers ≤ 16) }
-    requires network { opening.machine.network ≡ E.net }
-    requires board { opening.board ≡ E.board }
-    requires entries { (opening.entries.name ≡ E.name) × (opening.entries.parts ≡ E.parts) }
-    requires overs { (opening.overs.name ≡ O.name) × (opening.overs.parts ≡ O.parts) }
+    requires names { AreNamesOf E.EntryLedger O.Ledger opening }
     ensures finish { IfOk result (IsFinish (family B.Kinds.Kinds) E.net) }
-    ensures not_run { (n : NetV) (bs : _) (fault : OpenFaultV) → result ≡ Err (Failure.NotRun n bs fault) → (n ≡ opening.machine.network) × (map B.card bs.items ≡ cards_of opening.machine.network.processes) × (fault ≡ OpenFault.Memory) }
-    ensures lost { (a : Input) (b : _) → result ≡ Err (Failure.Lost a b) → B.card b ≡ a.card }
+    ensures failed { IfErr result (FailsOpened B.card opening.machine.network) }
 {
     let (monitor, mut workforce) = match seat_workers::<B, H, E, O, R>(
         rt, alloc, opening, workers,

@@ -17,6 +17,14 @@ use std::alloc::Global;
 /// The most workers of a run.
 pub const MOST_WORKERS: usize = 16;
 
+/// What is to be run: a network, a body for each process, in order, and the number of workers.
+#[derive(Drop)]
+pub struct RunRequest<B: Body> {
+    pub net: Net<B::Kinds>,
+    pub bodies: Vec<B>,
+    pub workers: usize,
+}
+
 /// Why a run failed.
 #[derive(Drop)]
 pub enum Failure<B: Body> {

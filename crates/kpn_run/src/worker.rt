@@ -49,6 +49,13 @@ impl Stopwatch {
     }
 }
 
+/// A worker's pace, and the stopwatch that judges it.
+#[derive(Drop)]
+struct TimedPace {
+    watch: Stopwatch,
+    pace: Pace,
+}
+
 /// Calls the tasks of a hand and the gate after each, and exchanges the answers for other tasks, until the
 /// run has ended, an answer is refused, or the workers should stop. In between it asks bodies in place, while
 /// the gate lets it and that is quicker. A worker that should stop finishes what it holds, and lets the
@@ -74,19 +81,21 @@ pub(crate) fn work_in_rounds<
 {
     monitor.rest(rt, hand, Rest::Spare, Duration::from_micros(FIRST_REST));
     let watch = Stopwatch::new(rt);
-    let mut pace = Pace::new(watch.nanos(rt), orders.gate.lets_ask_in_place());
+    let pace = Pace::new(watch.nanos(rt), orders.gate.lets_ask_in_place());
+    let mut timed = TimedPace { watch, pace };
     for _ in rt.forever() {
-        let asks = pace.in_place() > 0 && hand.len() == 0;
-        if asks && ask_in_place(rt, monitor, orders.signal, seat, &watch, &mut pace) {
+        let asks = timed.pace.in_place() > 0 && hand.len() == 0;
+        if asks && ask_in_place(rt, monitor, orders.signal, seat, &mut timed) {
             return None;
         }
         let stops = orders.signal.stops();
         let calls = hand.len() as u64;
         call_all(hand, orders.gate);
-        let most = if pace.is_timed() {
-            pace.called(calls, watch.nanos(rt))
+        let most = if timed.pace.is_timed() {
+            let now = timed.watch.nanos(rt);
+            timed.pace.called(calls, now)
         } else {
-            pace.most()
+            timed.pace.most()
         };
         match monitor.exchange(rt, hand, seat, if stops { 0 } else { most }) {
             Ok(Next::Over(_)) => return None,
@@ -94,7 +103,7 @@ pub(crate) fn work_in_rounds<
                 monitor.rouse(rt);
                 return None;
             }
-            Ok(next) => go_on(rt, monitor, hand, &watch, &mut pace, next),
+            Ok(next) => go_on(rt, monitor, hand, &mut timed, next),
             Err(Stranger { finished }) => return Some(finished),
         }
     }
@@ -107,22 +116,24 @@ fn ask_in_place<B: Body, H: Keeper, E: EntryLedger, O: Ledger, R: Wait + Clock, 
     monitor: &Monitor<B, E, O, H>,
     signal: &S,
     seat: &mut Seat<E, O>,
-    watch: &Stopwatch,
-    pace: &mut Pace,
+    timed: &mut TimedPace,
 ) -> bool
     ensures parts { seat.new.parts ≡ seat.old.parts }
     ensures over { IsTrue result → seat.new.overs ≡ 1 }
 {
     for _ in rt.forever() {
-        match monitor.ask_in_place(rt, seat, pace.in_place()) {
-            Went::On { answers: _, waited } => pace.asked(waited, watch.nanos(rt)),
-            Went::Nowhere => pace.stop_asking(),
+        match monitor.ask_in_place(rt, seat, timed.pace.in_place()) {
+            Went::On { answers: _, waited } => {
+                let now = timed.watch.nanos(rt);
+                timed.pace.asked(waited, now);
+            }
+            Went::Nowhere => timed.pace.stop_asking(),
             Went::Over(_) => return true,
         }
         if signal.stops() {
-            pace.stop_asking();
+            timed.pace.stop_asking();
         }
-        if pace.in_place() == 0 {
+        if timed.pace.in_place() == 0 {
             return false;
         }
     }
@@ -134,21 +145,24 @@ fn go_on<B: Body, H: Keeper, E: EntryLedger, O: Ledger, R: Wait + Clock>(
     rt: &R,
     monitor: &Monitor<B, E, O, H>,
     hand: &mut Hand<B>,
-    watch: &Stopwatch,
-    pace: &mut Pace,
+    timed: &mut TimedPace,
     next: Next,
 ) {
-    if !pace.is_timed() && matches!(next, Next::Tasks) {
-        if pace.pass() {
-            pace.resume(watch.nanos(rt));
+    let is_untimed = !timed.pace.is_timed();
+    if is_untimed && matches!(next, Next::Tasks) {
+        if timed.pace.pass() {
+            let now = timed.watch.nanos(rt);
+            timed.pace.resume(now);
         }
         return;
     }
-    if !pace.is_timed() {
-        pace.resume(watch.nanos(rt));
+    if is_untimed {
+        let now = timed.watch.nanos(rt);
+        timed.pace.resume(now);
     }
-    let turn = pace.exchanged(next, watch.nanos(rt));
-    take_turn(rt, monitor, hand, watch, pace, turn);
+    let now = timed.watch.nanos(rt);
+    let turn = timed.pace.exchanged(next, now);
+    take_turn(rt, monitor, hand, timed, turn);
 }
 
 fn call_all<B: Body, G: Gate>(hand: &mut Hand<B>, gate: &G)
@@ -163,8 +177,7 @@ fn take_turn<B: Body, H: Keeper, E: EntryLedger, O: Ledger, R: Wait + Clock>(
     rt: &R,
     monitor: &Monitor<B, E, O, H>,
     hand: &mut Hand<B>,
-    watch: &Stopwatch,
-    pace: &mut Pace,
+    timed: &mut TimedPace,
     turn: Turn,
 ) {
     match turn {
@@ -180,7 +193,8 @@ fn take_turn<B: Body, H: Keeper, E: EntryLedger, O: Ledger, R: Wait + Clock>(
                 Rest::Idle => IDLE_REST,
             };
             let rested = monitor.rest(rt, hand, why, Duration::from_micros(long));
-            pace.rested(rested, watch.nanos(rt));
+            let now = timed.watch.nanos(rt);
+            timed.pace.rested(rested, now);
         }
     }
 }

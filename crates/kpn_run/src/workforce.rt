@@ -3,6 +3,7 @@ ghost use Rattle.std.specs.Prelude.{◌≡◌, ◌<◌, ◌≤◌, false, IfOk, 
 ghost use Rattle.std.specs.List.{All};
 ghost use Rattle.kpn_model.specs.Families.{family};
 ghost use Rattle.kpn_machine.specs.MachineView.{IsFresh};
+ghost use Rattle.kpn_monitor.specs.Views.{AreNamesOf};
 ghost use Rattle.kpn_monitor.specs.Kept.{IsClosed};
 ghost use Rattle.kpn_run.specs.Runs.{AtSlot, HasMet};
 
@@ -55,10 +56,7 @@ pub fn seat_workers<
     workers: usize,
 ) -> Result<(Monitor<B, E, O, H>, Workforce<B, E, O>), Machine<B, H>>
     requires workers { (0 < workers) × (workers ≤ 16) }
-    requires network { opening.machine.network ≡ E.net }
-    requires board { opening.board ≡ E.board }
-    requires entries { (opening.entries.name ≡ E.name) × (opening.entries.parts ≡ E.parts) }
-    requires overs { (opening.overs.name ≡ O.name) × (opening.overs.parts ≡ O.parts) }
+    requires names { AreNamesOf E.EntryLedger O.Ledger opening }
     ensures fresh { IfErr result IsFresh }
     ensures back { IfErr result (λ m. m ≡ opening.machine) }
 {

@@ -2,6 +2,7 @@
 ghost use Rattle.std.specs.Prelude.{◌≡◌, ◌≢◌, ◌+◌, ◌^◌, ◌<◌, ◌↔◌, [], length, IfOk, OnErr, IsErr};
 ghost use mathlib.Core.List.{IsPrefix};
 ghost use Rattle.kpn_model.specs.History.{growths as growths_of};
+ghost use Rattle.kpn_watch.specs.Boards.{MayPublish};
 ghost use Rattle.kpn_watch.specs.Shown.{shows};
 
 use crate::progress::{Phase, Progress};
@@ -111,13 +112,12 @@ impl Board {
         requires ended { publisher.old.phase ≢ Phase.Running → (history.now ≡ publisher.old.entries) × (phase ≡ publisher.old.phase) }
         ensures { publisher.new ≡ record publisher.old { entries = history.now; phase = phase } }
     {
-        self.publish_as::<Brand, &[Entry]>(
-            publisher,
-            history,
-            history.len() as u32,
+        let progress = Progress {
+            entries: history.len() as u32,
             growths,
             phase,
-        );
+        };
+        self.publish_as::<Brand, &[Entry]>(publisher, history, progress);
     }
 
     /// Publishes kept entries, their number of growths and their phase with one store, like `publish`. The
@@ -137,35 +137,24 @@ impl Board {
         requires ended { publisher.old.phase ≢ Phase.Running → (H.entries kept.now ≡ publisher.old.entries) × (phase ≡ publisher.old.phase) }
         ensures { publisher.new ≡ record publisher.old { entries = H.entries kept.now; phase = phase } }
     {
-        self.publish_as::<Brand, &H>(publisher, kept, kept.count() as u32, growths, phase);
-    }
-
-    // A step's `Play` sees no argument: the type N, chosen from `_from`, carries what to publish.
-    fn publish_as<N: News, T: Copy>(
-        &self,
-        publisher: &mut Publisher,
-        _from: T,
-        entries: u32,
-        growths: u32,
-        phase: Phase,
-    )
-        requires board { publisher.old.board ≡ self.now }
-        requires goes_on { IsPrefix publisher.old.entries N.news.entries }
-        requires short { length N.news.entries < 2 ^ 22 }
-        requires entries { entries ≡ length N.news.entries }
-        requires counted { growths ≡ length (growths_of N.news.entries) }
-        requires phase { phase ≡ N.news.phase }
-        requires ended { publisher.old.phase ≢ Phase.Running → (N.news.entries ≡ publisher.old.entries) × (N.news.phase ≡ publisher.old.phase) }
-        ensures { publisher.new ≡ record publisher.old { entries = N.news.entries; phase = N.news.phase } }
-    {
         let progress = Progress {
-            entries,
+            entries: kept.count() as u32,
             growths,
             phase,
         };
+        self.publish_as::<Brand, &H>(publisher, kept, progress);
+    }
+
+    // A step's `Play` sees no argument: the type N, chosen from `_from`, carries what to publish.
+    fn publish_as<N: News, T: Copy>(&self, publisher: &mut Publisher, _from: T, progress: Progress)
+        requires may { MayPublish publisher.old self.now N.news.entries N.news.phase }
+        requires shown { progress ≡ shows N.news.entries N.news.phase }
+        ensures { publisher.new ≡ record publisher.old { entries = N.news.entries; phase = N.news.phase } }
+    {
+        let word = progress.to_word();
         self.table
             .shared
-            .store::<Publish<N>>(&mut publisher.seat, 0, progress.to_word());
+            .store::<Publish<N>>(&mut publisher.seat, 0, word);
     }
 
     /// Makes a watcher that has seen what is published. The publisher must be this board's. Fails exactly if

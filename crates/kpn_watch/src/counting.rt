@@ -1,7 +1,8 @@
-//! A publisher that counts.
+//! A publisher that keeps the numbers of what it published last.
 ghost use Rattle.std.specs.Prelude.{◌≡◌, ◌≢◌, ◌+◌, ◌^◌, ◌<◌, ◌↔◌, [], length, count_by, IfOk, IsErr, OnErr};
 ghost use mathlib.Core.List.{IsPrefix};
 ghost use Rattle.kpn_model.specs.History.{growths as growths_of};
+ghost use Rattle.kpn_watch.specs.Boards.{MayPublish};
 ghost use Rattle.kpn_watch.specs.Phases.{phase_of};
 ghost use Rattle.kpn_watch.specs.Shown.{shows, is_growth};
 
@@ -11,7 +12,8 @@ use kpn_model::{End, Entry};
 use kpn_state::Keeper;
 use std::marker::Model;
 
-/// A publisher that counts only new entries. Contracts see it as the publisher.
+/// A publisher that keeps the numbers of entries and growths published last, so that `publish` counts only new
+/// entries. Contracts see it as the publisher.
 #[derive(Drop)]
 pub struct CountingPublisher {
     publisher: Publisher,
@@ -77,11 +79,8 @@ impl CountingPublisher {
         growths: usize,
         ended: Option<End>,
     )
-        requires board { self.old.board ≡ board.now }
-        requires goes_on { IsPrefix self.old.entries history.now }
-        requires short { length history.now < 2 ^ 22 }
+        requires may { MayPublish self.old board.now history.now (phase_of ended) }
         requires counted { growths ≡ length (growths_of history.now) }
-        requires ended { self.old.phase ≢ Phase.Running → (history.now ≡ self.old.entries) × (phase_of ended ≡ self.old.phase) }
         ensures { self.new ≡ record self.old { entries = history.now; phase = phase_of ended } }
     {
         self.growths = growths as u32;
@@ -98,11 +97,8 @@ impl CountingPublisher {
         growths: usize,
         ended: Option<End>,
     )
-        requires board { self.old.board ≡ board.now }
-        requires goes_on { IsPrefix self.old.entries (H.entries kept.now) }
-        requires short { length (H.entries kept.now) < 2 ^ 22 }
+        requires may { MayPublish self.old board.now (H.entries kept.now) (phase_of ended) }
         requires counted { growths ≡ length (growths_of (H.entries kept.now)) }
-        requires ended { self.old.phase ≢ Phase.Running → (H.entries kept.now ≡ self.old.entries) × (phase_of ended ≡ self.old.phase) }
         ensures { self.new ≡ record self.old { entries = H.entries kept.now; phase = phase_of ended } }
     {
         let entries = kept.count();

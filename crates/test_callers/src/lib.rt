@@ -5,6 +5,7 @@
 ghost use Rattle.std.specs.Prelude.{◌≡◌, ◌≢◌, ◌<◌, ◌≤◌, ◌^◌, length, Some, IfOk};
 ghost use mathlib.Core.List.{IsPrefix};
 ghost use Rattle.kpn_machine.specs.MachineView.{IsFresh};
+ghost use Rattle.kpn_monitor.specs.Views.{AreNamesOf};
 ghost use Rattle.kpn_watch.specs.Phases.{phase_of};
 ghost use Rattle.kpn_watch.specs.Shown.{shows};
 ghost use Rattle.kpn_watch.specs.declared.progress.Phase.TheVariants.{Running};
@@ -84,10 +85,7 @@ pub fn open_first<B: Body, E: EntryLedger, O: Ledger>(
     first: Opening<B>,
     _second: Opening<B>,
 ) -> Opened<B, E, O>
-    requires network { first.machine.network ≡ E.net }
-    requires board { first.board ≡ E.board }
-    requires entries { (first.entries.name ≡ E.name) × (first.entries.parts ≡ E.parts) }
-    requires overs { (first.overs.name ≡ O.name) × (first.overs.parts ≡ O.parts) }
+    requires names { AreNamesOf E.EntryLedger O.Ledger first }
     ensures { result.seat.parts ≡ 65536 }
 {
     let (monitor, seat) = Monitor::open(first);

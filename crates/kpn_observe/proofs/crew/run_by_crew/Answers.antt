@@ -1,6 +1,6 @@
 -- The machine is one of this network.
-use Rattle.std.proofs.Common.{◌∙◌, ◌≡◌, ap, map, subst, sym}
-use Rattle.std.specs.Prelude.{IfOk, IfErr, Result}
+use Rattle.std.proofs.Common.{◌∙◌, ◌≡◌, ap, subst, sym}
+use Rattle.std.specs.Prelude.{IfOk, Result}
 use Rattle.std.proofs.lemmas.Result.{IfOk-weaker, IfErr-weaker}
 use Rattle.kpn_model.specs.Network.{Network}
 use Rattle.kpn_model.specs.Families.{family}
@@ -39,15 +39,15 @@ pub returns-clause-cards : goal.returns-clause-cards
 returns-clause-cards g c = IfOk-weaker c.run_opened.result _ _ (λ r is. c.in_ok-opening.ensures.cards) c.run_opened.ensures.run
 
 pub returns-clause-net_back : goal.returns-clause-net_back
-returns-clause-net_back g c = subst (λ (n : Network). IfErr c.run_opened.result (λ refused. refused.net ≡ n)) c.in_ok-opening.ensures.network c.run_opened.ensures.net_back
+returns-clause-net_back g c = IfErr-weaker c.run_opened.result _ _ (λ refused lacks. lacks.net_is ∙ c.in_ok-opening.ensures.network) c.run_opened.ensures.refused
 
 pub returns-clause-cards_back : goal.returns-clause-cards_back
 returns-clause-cards_back g c =
     let same = ap (λ (n : Network). cards_of n.processes) c.in_ok-opening.ensures.network ∙ sym c.in_ok-opening.ensures.cards in
-    subst (λ cards. IfErr c.run_opened.result (λ refused. map g.B.Body.card refused.bodies.items ≡ cards)) same c.run_opened.ensures.cards_back
+    IfErr-weaker c.run_opened.result _ _ (λ refused lacks. lacks.cards_are ∙ same) c.run_opened.ensures.refused
 
 pub returns-clause-bodies_back : goal.returns-clause-bodies_back
-returns-clause-bodies_back g c = IfErr-weaker c.run_opened.result _ _ (λ refused is. λ other. absurd (other is)) c.run_opened.ensures.fault
+returns-clause-bodies_back g c = IfErr-weaker c.run_opened.result _ _ (λ refused lacks. λ other. absurd (other lacks.fault_is)) c.run_opened.ensures.refused
 
 pub returns-clause-fault : goal.returns-clause-fault
-returns-clause-fault g c = IfErr-weaker c.run_opened.result _ _ (λ refused is. rw is c.in_ok-opening.ensures.cards) c.run_opened.ensures.fault
+returns-clause-fault g c = IfErr-weaker c.run_opened.result _ _ (λ refused lacks. rw lacks.fault_is c.in_ok-opening.ensures.cards) c.run_opened.ensures.refused

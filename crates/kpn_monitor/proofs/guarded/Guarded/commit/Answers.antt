@@ -45,15 +45,13 @@ invariant_of-self g c =
       c.self.invariant.4,
     )
 
-pub returns-clause-machine : goal.returns-clause-machine
-returns-clause-machine g c = rw (← c.self.view_is) (c.give_one-outcome.ensures.commits, c.give_one-outcome.ensures.appends)
-
-pub returns-clause-seat : goal.returns-clause-seat
-returns-clause-seat g c = c.add_entries.ensures.seat ∙ ap (λ k. record c.args.seat.now { entries = c.args.seat.now.entries + k }) c.count_of.ensures
-
-pub returns-clause-committed : goal.returns-clause-committed
-returns-clause-committed g c =
-    subst (λ (n : Network). WasCommitted (family_of g.B.Kinds.Kinds.start g.B.Kinds.Kinds.answer_of) g.B.Kinds.Kinds.admits n c.args.finished c.give_one-outcome.result) c.self.invariant.0.network c.give_one-outcome.ensures.committed
+pub returns : goal.returns
+returns g c = record {
+  commits = rw (← c.self.view_is) c.give_one-outcome.ensures.commits;
+  appends = rw (← c.self.view_is) c.give_one-outcome.ensures.appends;
+  seat = c.add_entries.ensures.seat ∙ ap (λ k. record c.args.seat.now { entries = c.args.seat.now.entries + k }) c.count_of.ensures;
+  committed = subst (λ (n : Network). WasCommitted (family_of g.B.Kinds.Kinds.start g.B.Kinds.Kinds.answer_of) g.B.Kinds.Kinds.admits n c.args.finished c.give_one-outcome.result) c.self.invariant.0.network c.give_one-outcome.ensures.committed;
+}
 
 pub add_entries-requires : goal.add_entries-requires
 add_entries-requires g c = grind (arith, common_steps)

@@ -9,24 +9,23 @@ use Rattle.kpn_monitor.specs.Kept.{WasTaken}
 use Rattle.kpn_monitor.proofs.Handing.{all_one, no_item}
 use Rattle.kpn_monitor.proofs.guarded.Guarded.deal.Goals as goal
 
-pub returns-in-Some-Task-clause-out : goal.returns-in-Some-Task-clause-out
-returns-in-Some-Task-clause-out g c =
+pub returns-in-Some-Task-clause-deals : goal.returns-in-Some-Task-clause-deals
+returns-in-Some-Task-clause-deals g c =
     let t = c.in-Some-Task.first in
-    let taken = c.in-Some-Task.ensures.task t (ap Some c.in-Some-Task.field-0-is) in
-    let more = c.deal_more-in-Some-Task.ensures.out in
+    let first = c.in-Some-Task.ensures.task t (ap Some c.in-Some-Task.field-0-is) in
+    let deals = c.deal_more-in-Some-Task.ensures.deals in
+    let more = deals.out in
     let none : c.args.hand.now.tasks ≡ [] = no_item c.args.hand.now.tasks (omega (arith, c.if-len-gt0.false, c.len.ensures.len)) in
-    let one = ap (λ (h : Holding). h.tasks) c.put.ensures in (
-      t ∷ more.0,
-      more.1 ∙ ap (λ (l : List Input). l ++ more.0) one ∙ ap (λ (l : List Input). (l ++ t ∷ []) ++ more.0) none ∙ ap (λ (l : List Input). l ++ t ∷ more.0) (sym none),
-      (c.take.new.self.machine, taken.1, more.2),
-    )
-
-pub returns-in-Some-Task-clause-taken : goal.returns-in-Some-Task-clause-taken
-returns-in-Some-Task-clause-taken g c = λ all.
-    let t = c.in-Some-Task.first in
-    let none : c.args.hand.now.tasks ≡ [] = no_item c.args.hand.now.tasks (omega (arith, c.if-len-gt0.false, c.len.ensures.len)) in
-    let one = ap (λ (h : Holding). h.tasks) c.put.ensures ∙ ap (λ (l : List Input). l ++ t ∷ []) none in
-    c.deal_more-in-Some-Task.ensures.taken (all_one (WasTaken (family_of g.B.Kinds.Kinds.start g.B.Kinds.Kinds.answer_of) g.B.Kinds.Kinds.admits g.E.EntryLedger.net) c.put.new.self.tasks t one (c.in-Some-Task.ensures.taken t (ap Some c.in-Some-Task.field-0-is)))
+    let one = ap (λ (h : Holding). h.tasks) c.put.ensures in
+    record {
+      out = (
+        t ∷ more.0,
+        more.1 ∙ ap (λ (l : List Input). l ++ more.0) one ∙ ap (λ (l : List Input). (l ++ t ∷ []) ++ more.0) none ∙ ap (λ (l : List Input). l ++ t ∷ more.0) (sym none),
+        (c.take.new.self.machine, first.1, more.2),
+      );
+      taken = λ all. deals.taken
+          (all_one (WasTaken (family_of g.B.Kinds.Kinds.start g.B.Kinds.Kinds.answer_of) g.B.Kinds.Kinds.admits g.E.EntryLedger.net) c.put.new.self.tasks t (one ∙ ap (λ (l : List Input). l ++ t ∷ []) none) (c.in-Some-Task.ensures.taken t (ap Some c.in-Some-Task.field-0-is)));
+    }
 
 pub returns-in-Some-Task-clause-tasks : goal.returns-in-Some-Task-clause-tasks
 returns-in-Some-Task-clause-tasks g c = λ is. ((c.in-Some-Task.ensures.task c.in-Some-Task.first (ap Some c.in-Some-Task.field-0-is)).0, c.deal_more-in-Some-Task.ensures.some)

@@ -9,15 +9,15 @@ returns-clause-machine g c =
     let dealt = c.deal.ensures in (
       c.give.new.self.machine,
       c.give.new.hand.tasks,
-      dealt.out.0,
-      dealt.out.1,
+      dealt.deals.out.0,
+      dealt.deals.out.1,
       rw dealt.rest.1 (given.goes_on c.if-give.false),
       rw dealt.rest.1 (given.ended c.if-give.false),
-      dealt.out.2,
+      dealt.deals.out.2,
     )
 
 pub returns-clause-taken : goal.returns-clause-taken
-returns-clause-taken g c = (c.deal.ensures.taken (c.give.ensures.taken c.if-give.false), c.deal.ensures.rest.0)
+returns-clause-taken g c = (c.deal.ensures.deals.taken (c.give.ensures.taken c.if-give.false), c.deal.ensures.rest.0)
 
 pub returns-clause-tasks : goal.returns-clause-tasks
 returns-clause-tasks g c = grind (arith, common_steps)

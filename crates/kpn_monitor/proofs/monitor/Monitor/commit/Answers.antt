@@ -1,15 +1,21 @@
--- What the call under the lock says of an answer that was refused; the other clause is found without an answer too,
--- and with it a wrong body is refused at once.
-use Rattle.std.proofs.Common.{rules}
-use Rattle.std.specs.Prelude.{Result, Ok, Err, MatchResult, IfErr}
+-- What the call under the lock says of the answer.
+use Rattle.std.specs.Prelude.{Result, Ok, Err, MatchResult, IfOk, IfErr}
+use Rattle.std.proofs.lemmas.Result.{MatchResult-weaker}
 use Rattle.kpn_monitor.proofs.monitor.Monitor.commit.Goals as goal
 
-if_err : {T E : Type 0} (r : Result T E) (P : T → Type 0) (A B : E → Type 0) → MatchResult r P (λ e. A e × B e) → IfErr r B
-if_err (Ok x) P A B told = tt
-if_err (Err e) P A B told = told.1
+if_ok : {T E : Type 0} (r : Result T E) (P A : T → Type 0) (Q : E → Type 0) → MatchResult r P Q → ((x : T) → P x → A x) → IfOk r A
+if_ok (Ok x) P A Q told leads = leads x told
+if_ok (Err e) P A Q told leads = tt
+
+if_err : {T E : Type 0} (r : Result T E) (P : T → Type 0) (Q A : E → Type 0) → MatchResult r P Q → ((e : E) → Q e → A e) → IfErr r A
+if_err (Ok x) P Q A told leads = tt
+if_err (Err e) P Q A told leads = leads e told
+
+pub returns-clause-seat : goal.returns-clause-seat
+returns-clause-seat g c = MatchResult-weaker c.commit-answer.result c.commit-answer.ensures (λ o taken. taken.seat) (λ s same. same.1)
 
 pub returns-clause-committed : goal.returns-clause-committed
-returns-clause-committed g c = search rules
+returns-clause-committed g c = if_ok c.commit-answer.result _ _ _ c.commit-answer.ensures (λ o taken. taken.committed)
 
 pub returns-clause-stranger : goal.returns-clause-stranger
-returns-clause-stranger g c = if_err c.commit-answer.result _ _ _ c.commit-answer.ensures.machine
+returns-clause-stranger g c = if_err c.commit-answer.result _ _ _ c.commit-answer.ensures (λ s same. same.2)

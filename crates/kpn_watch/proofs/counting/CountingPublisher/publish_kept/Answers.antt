@@ -6,7 +6,7 @@ use Rattle.kpn_watch.proofs.Words.{growths_le}
 use Rattle.kpn_watch.proofs.counting.CountingPublisher.publish_kept.Goals as goal
 
 pub overflow_cast-growths : goal.overflow_cast-growths
-overflow_cast-growths g c = omega (arith, growths_le (g.H.Keeper.entries c.args.kept.now), c.requires.short, c.requires.counted)
+overflow_cast-growths g c = omega (arith, growths_le (g.H.Keeper.entries c.args.kept.now), c.requires.may.short, c.requires.counted)
 
 pub invariant_of-self : goal.invariant_of-self
 invariant_of-self g c =
@@ -14,5 +14,5 @@ invariant_of-self g c =
       c.count-entries.ensures.count ∙ ap length (sym entries),
       c.requires.counted ∙ ap (λ es. length (growths_of es)) (sym entries),
       ap (λ (p : Published). p.phase) (sym c.publish_kept.ensures),
-      omega (arith, ap length entries, c.requires.short),
+      omega (arith, ap length entries, c.requires.may.short),
     )

@@ -2,7 +2,7 @@
 use Rattle.std.proofs.Common.{refl}
 use Rattle.kpn_model.specs.Network.{family_of}
 use Rattle.kpn_monitor.proofs.GivenOn.{gave_up}
-use Rattle.kpn_monitor.proofs.giving.give_up.Goals as goal
+use Rattle.kpn_monitor.proofs.giving.give_and_leave.Goals as goal
 
 pub returns-clause-gave : goal.returns-clause-gave
 returns-clause-gave g c =
