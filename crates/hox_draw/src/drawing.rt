@@ -18,25 +18,31 @@ use std::rt::Clock;
 use std::sync::Wait;
 use std::thread::Threads;
 
+/// A picture that is wanted: of the network that is requested, in this direction, as it is or as a run leaves it.
+#[derive(Clone, Copy)]
+pub struct WantedPicture<'a> {
+    pub request: &'a Request,
+    pub direction: Direction,
+    pub is_run: bool,
+}
+
 /// Reads a description, sets the start tokens of the request's files and the request's budget, and returns the
-/// picture of the network: as it is, or, if `is_run`, as a run with the request's 1 to 16 workers left it. A process
-/// whose kind in the description is a formula has that as its title.
+/// picture of the network that is wanted; if of a run, of one with the request's 1 to 16 workers. A process whose
+/// kind in the description is a formula has that as its title.
 ///
 /// Errors: see [`Fault`], except `NoShown` and `NoOutput`; `Lost` only with several workers.
 pub fn draw<K: Computes + Titled, I: Source, R: Wait + Clock + Threads + Sync>(
     rt: &R,
     alloc: Global,
-    request: &Request,
-    direction: Direction,
-    is_run: bool,
+    wanted: &WantedPicture<'_>,
     source: &mut I,
 ) -> Result<String, Fault>
-    requires { HasFewWorkers request.now }
-    ensures served { Serves K.named K.signature (GivesPicture (family K.Kinds) K.named K.title direction is_run request.now) (I.remaining source.old) (I.has_failed source.old) (I.has_failed source.new) result }
+    requires { HasFewWorkers wanted.now.request.now }
+    ensures served { Serves K.named K.signature (GivesPicture (family K.Kinds) K.named K.title wanted.now.direction wanted.now.is_run wanted.now.request.now) (I.remaining source.old) (I.has_failed source.old) (I.has_failed source.new) result }
     ensures taken { ConsumesAtMost (longest + 1) (I.remaining source.old) (I.remaining source.new) }
 {
     match read_text(alloc, source) {
-        Ok(text) => draw_text::<K, R>(rt, alloc, request, direction, is_run, text.as_slice()),
+        Ok(text) => draw_text::<K, R>(rt, alloc, wanted, text.as_slice()),
         Err(fault) => {
             let text = Vec::new(alloc);
             Err(Fault::Description(Refused { fault, text }))
@@ -47,16 +53,14 @@ pub fn draw<K: Computes + Titled, I: Source, R: Wait + Clock + Threads + Sync>(
 fn draw_text<K: Computes + Titled, R: Wait + Clock + Threads + Sync>(
     rt: &R,
     alloc: Global,
-    request: &Request,
-    direction: Direction,
-    is_run: bool,
+    wanted: &WantedPicture<'_>,
     text: &[u8],
 ) -> Result<String, Fault>
-    requires { HasFewWorkers request.now }
-    ensures { Serves K.named K.signature (GivesPicture (family K.Kinds) K.named K.title direction is_run request.now) (Some text.now) false false result }
+    requires { HasFewWorkers wanted.now.request.now }
+    ensures { Serves K.named K.signature (GivesPicture (family K.Kinds) K.named K.title wanted.now.direction wanted.now.is_run wanted.now.request.now) (Some text.now) false false result }
 {
     let mut source = text;
-    let net: Net<K> = match prepare(alloc, request, &mut source) {
+    let net: Net<K> = match prepare(alloc, wanted.request, &mut source) {
         Ok(net) => net,
         Err(fault) => return Err(fault),
     };
@@ -64,28 +68,27 @@ fn draw_text<K: Computes + Titled, R: Wait + Clock + Threads + Sync>(
         return Err(Fault::Memory);
     };
     let style = Style {
-        direction,
+        direction: wanted.direction,
         titles: titles.as_slice(),
     };
-    draw_prepared(rt, alloc, request, net, &style, is_run)
+    draw_prepared(rt, alloc, wanted, net, &style)
 }
 
 fn draw_prepared<K: Computes + Titled, R: Wait + Clock + Threads + Sync>(
     rt: &R,
     alloc: Global,
-    request: &Request,
+    wanted: &WantedPicture<'_>,
     net: Net<K>,
     style: &Style<'_>,
-    is_run: bool,
 ) -> Result<String, Fault>
-    requires { HasFewWorkers request.now }
-    ensures drawn { IfOk result (λ picture. Draws (family K.Kinds) K.title style.now.direction style.now.titles.now is_run net (string_bytes picture)) }
-    ensures fault { IfErr result (λ e. (m : NetworkV) → IsFault request.now m e) }
+    requires { HasFewWorkers wanted.now.request.now }
+    ensures drawn { IfOk result (λ picture. Draws (family K.Kinds) K.title style.now.direction style.now.titles.now wanted.now.is_run net (string_bytes picture)) }
+    ensures fault { IfErr result (λ e. (m : NetworkV) → IsFault wanted.now.request.now m e) }
 {
-    if !is_run {
+    if !wanted.is_run {
         return draw_net(alloc, &net, style).map_err(|_| Fault::Memory);
     }
-    match draw_run(rt, alloc, net, style, request.workers) {
+    match draw_run(rt, alloc, net, style, wanted.request.workers) {
         Ok(picture) => Ok(picture),
         Err(NoResult::Memory) => Err(Fault::Memory),
         Err(NoResult::Lost) => Err(Fault::Lost),

@@ -5,5 +5,5 @@ mod drawing;
 mod running;
 mod titles;
 
-pub use drawing::draw;
+pub use drawing::{WantedPicture, draw};
 pub use kpn_picture::Direction;

@@ -1,11 +1,10 @@
 //! Runs a network, and draws it as the run left it.
-ghost use Rattle.std.specs.Prelude.{◌≡◌, ◌<◌, ◌≤◌, Err, IfOk, IsSome, map, string_bytes};
+ghost use Rattle.std.specs.Prelude.{◌≡◌, ◌<◌, ◌≤◌, Err, IfOk, IsSome, string_bytes};
 ghost use Rattle.kpn_model.specs.Families.{family};
 ghost use Rattle.hox_draw.specs.Drawing.{DrawsRun, report_picture};
 
 use hox_network::NoResult;
-use kpn_body::Body;
-use kpn_compute::{CardBody, Computes, bodies_of};
+use kpn_compute::{Computes, bodies_of};
 use kpn_laws::determinacy_of;
 use kpn_machine::{Chronicle, Machine};
 use kpn_network::Net;
@@ -31,24 +30,21 @@ pub(crate) fn draw_run<K: Computes + Titled, R: Wait + Clock + Threads + Sync>(
     ensures drawn { IfOk result (λ picture. DrawsRun (family K.Kinds) K.title style.now.direction style.now.titles.now net (string_bytes picture)) }
     ensures lost { result ≡ Err NoResult.Lost → 1 < workers }
 {
-    let Ok(bodies) = bodies_of(alloc, &net) else {
-        return Err(NoResult::Memory);
-    };
     if workers == 1 {
-        draw_alone(alloc, net, bodies, style).map_err(|_| NoResult::Memory)
+        draw_alone(alloc, net, style).map_err(|_| NoResult::Memory)
     } else {
-        draw_by_workers(rt, alloc, net, bodies, style, workers)
+        draw_by_workers(rt, alloc, net, style, workers)
     }
 }
 
 fn draw_alone<K: Computes + Titled>(
     alloc: Global,
     net: Net<K>,
-    bodies: Vec<CardBody<K>>,
     style: &Style<'_>,
 ) -> Result<String, AllocError>
     ensures { IfOk result (λ picture. DrawsRun (family K.Kinds) K.title style.now.direction style.now.titles.now net (string_bytes picture)) }
 {
+    let bodies = bodies_of(alloc, &net)?;
     let Ok(mut machine) = Machine::open(alloc, net, bodies) else {
         return Err(AllocError);
     };
@@ -60,14 +56,15 @@ fn draw_by_workers<K: Computes + Titled, R: Wait + Clock + Threads + Sync>(
     rt: &R,
     alloc: Global,
     net: Net<K>,
-    bodies: Vec<CardBody<K>>,
     style: &Style<'_>,
     workers: usize,
 ) -> Result<String, NoResult>
-    requires cards { map ⟦<CardBody<K> as Body>⟧.card bodies.items ≡ map (λ p. p.card) net.processes }
-    requires workers { (1 < workers) × (workers ≤ 16) }
+    requires { (1 < workers) × (workers ≤ 16) }
     ensures { IfOk result (λ picture. DrawsRun (family K.Kinds) K.title style.now.direction style.now.titles.now net (string_bytes picture)) }
 {
+    let Ok(bodies) = bodies_of(alloc, &net) else {
+        return Err(NoResult::Memory);
+    };
     match run(rt, alloc, net, bodies, workers, &Prompt) {
         Ok(finish) => {
             picture_of_run(alloc, finish.chronicle(), style).map_err(|_| NoResult::Memory)

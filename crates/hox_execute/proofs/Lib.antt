@@ -9,3 +9,4 @@ pub mod Chosen
 pub mod Both
 pub mod Grouped
 pub mod Rates
+pub mod Unasked

@@ -1,16 +1,18 @@
 //! Checks a description.
-ghost use Rattle.std.specs.Prelude.{◌≡◌, [], Result, IfOk, IfErr, OnErr, map};
+ghost use Rattle.std.specs.Prelude.{◌≡◌, [], None, Result, IfOk, IfErr, OnErr, false, map, option_map};
 ghost use Rattle.kpn_front.specs.Lines.{checked_line};
 ghost use Rattle.kpn_model.specs.Network.{Network as NetworkV};
 ghost use Rattle.hox_network.specs.declared.request.Fault.{Fault as FaultV};
 ghost use Rattle.hox_network.specs.Preparing.{GivesNet};
 ghost use Rattle.hox_execute.specs.Commands.{HasChecked, IsStop, checked_text};
+ghost use Rattle.hox_execute.specs.Program.{want_in};
 ghost use Rattle.hox_files.specs.Requests.{ServesFile, want_of};
 ghost use Rattle.hox_files.specs.Served.{ServesNamed};
 
 use crate::writing::write_text;
 use hox_expanded::description_of;
 use hox_files::files::FileSystem;
+use hox_files::pairs::name_of;
 use hox_files::reading::{CommandOptions, asked_of};
 use hox_files::stops::{RefusedRequest, Stop, Unserved, unopened};
 use hox_files::watching::Watched;
@@ -109,5 +111,25 @@ fn line_of<K: Kinds>(alloc: Global, net: &Net<K>) -> Result<Vec<u8>, AllocError>
         Ok(line)
     } else {
         Err(AllocError)
+    }
+}
+
+/// Returns the options of a command that writes no streams.
+pub(crate) fn network_in<'a, 'b>(
+    file: Option<&'a str>,
+    formats: &'b [&'a str],
+    workers: usize,
+) -> CommandOptions<'a, 'b>
+    ensures { want_of result ≡ want_in (option_map (λ s. s.now) file.entry) (map (λ s. s.now) formats.entry.now) workers }
+{
+    CommandOptions {
+        file: name_of(file),
+        workers,
+        budget: None,
+        show: &[],
+        formats,
+        unsigned: &[],
+        is_quiet: false,
+        is_json: false,
     }
 }

@@ -1,17 +1,19 @@
 //! Runs a network.
-ghost use Rattle.std.specs.Prelude.{◌≡◌, ◌≤◌, IfOk, IfErr, OnErr, map, string_bytes};
+ghost use Rattle.std.specs.Prelude.{◌≡◌, ◌≤◌, IfOk, IfErr, OnErr, string_bytes};
 ghost use Rattle.kpn_model.specs.Families.{family};
 ghost use Rattle.hox_network.specs.Preparing.{HasFewWorkers};
 ghost use Rattle.hox_run.specs.Serving.{GivesRun};
-ghost use Rattle.hox_execute.specs.Commands.{HasRun, IsStop};
+ghost use Rattle.hox_execute.specs.Program.{IsRunStop, RunsChoice, want_of_run};
 ghost use Rattle.hox_execute.specs.Reports.{IsNoted, Writes, rate_of, report_as, written_of};
 ghost use Rattle.hox_files.specs.Requests.{want_of};
 ghost use Rattle.hox_files.specs.Served.{ServesNamed};
 
+use crate::progress::Asking;
 use crate::texts::{FileNote, file_notes, file_texts, rate_of};
-use crate::writing::write_told;
+use crate::writing::{WrittenStreams, write_told};
+use hox_args::RunChoice;
 use hox_files::files::FileSystem;
-use hox_files::pairs::{Pair, firsts_of};
+use hox_files::pairs::{Pair, firsts_of, name_of};
 use hox_files::reading::{Asked, CommandOptions, asked_of};
 use hox_files::stops::{RefusedRequest, Stop, Unserved, unopened};
 use hox_files::watching::Watched;
@@ -36,8 +38,9 @@ pub struct Ran<'a> {
     pub files: Vec<FileNote>,
 }
 
-/// Runs a network on the tokens of files; writes the report, unless the command is quiet, and each stream to
-/// its file. `progress` receives the progress of the run. Errors: see [`Stop`].
+/// Runs a network on the tokens of files, as was chosen; writes the report, unless the command is quiet, and each
+/// stream to its file. `progress` receives the progress of the run, if the choice asks for it or it wants it.
+/// Errors: see [`Stop`].
 pub(crate) fn run<
     'a,
     K: Computes,
@@ -48,18 +51,26 @@ pub(crate) fn run<
     rt: &R,
     alloc: Global,
     files: &mut S,
-    wanted: CommandOptions<'a, '_>,
-    tokens: &[&'a str],
-    outputs: &[&'a str],
+    choice: &RunChoice<'a>,
     progress: &P,
 ) -> Result<Ran<'a>, Stop<'a>>
-    requires { (1 ≤ wanted.workers) × (wanted.workers ≤ 16) }
-    ensures done { IfOk result (λ ran. HasRun K.named K.signature (S.contents files.old) (S.clash files.old) (want_of wanted.entry) (map (λ t. t.now) tokens.now) (map (λ t. t.now) outputs.now) (S.is_steady files.old) (S.effects files.old) (S.effects files.new) (family K.Kinds) ran) }
-    ensures stop { IfErr result (IsStop K.named K.signature (S.contents files.old) (S.clash files.old) (want_of wanted.entry) (map (λ t. t.now) tokens.now) (map (λ t. t.now) outputs.now)) }
+    requires { (1 ≤ choice.now.workers) × (choice.now.workers ≤ 16) }
+    ensures done { IfOk result (λ ran. RunsChoice (family K.Kinds) K.named K.signature (S.contents files.old) (S.clash files.old) (S.is_steady files.old) (S.effects files.old) (S.effects files.new) choice.now ran) }
+    ensures stop { IfErr result (IsRunStop K.named K.signature (S.contents files.old) (S.clash files.old) choice.now) }
     ensures untouched { OnErr result (S.effects files.new ≡ S.effects files.old) }
 {
+    let wanted = wanted_of(choice);
+    let (tokens, outputs) = (choice.tokens.as_slice(), choice.outputs.as_slice());
     let asked = asked_of(alloc, files, wanted, tokens, outputs)?;
-    match told_of::<K, S, R, P>(rt, alloc, files, &asked.request, wanted.file, progress) {
+    let request = RequestOf {
+        file: wanted.file,
+        request: &asked.request,
+    };
+    let asking = Asking {
+        progress,
+        is_asked: choice.progress,
+    };
+    match told_of::<K, S, R, Asking<'_, P>>(rt, alloc, files, &request, &asking) {
         Ok(told) => ran_of(alloc, files, told, asked, wanted),
         Err(Unserved { fault, error }) => Err(Stop::Refused(RefusedRequest {
             file: wanted.file,
@@ -67,6 +78,23 @@ pub(crate) fn run<
             fault,
             error,
         })),
+    }
+}
+
+/// Returns the options of the command.
+fn wanted_of<'a, 'b>(choice: &'b RunChoice<'a>) -> CommandOptions<'a, 'b>
+    ensures want { want_of result ≡ want_of_run choice.now }
+    ensures workers { result.workers ≡ choice.now.workers }
+{
+    CommandOptions {
+        file: name_of(choice.file),
+        workers: choice.workers,
+        budget: choice.budget,
+        show: choice.show.as_slice(),
+        formats: choice.formats.as_slice(),
+        unsigned: choice.unsigned.as_slice(),
+        is_quiet: choice.quiet,
+        is_json: choice.json,
     }
 }
 
@@ -107,8 +135,11 @@ fn ran_of<'a, S: FileSystem>(
     let Ok(report) = report_as(alloc, report, wanted.is_json) else {
         return Err(Stop::Memory);
     };
-    let (firsts, texts) = (firsts.as_slice(), texts.as_slice());
-    let status = write_told(files, status, &report, firsts, texts, wanted.is_quiet);
+    let written = WrittenStreams {
+        outputs: firsts.as_slice(),
+        texts: texts.as_slice(),
+    };
+    let status = write_told(files, status, &report, &written, wanted.is_quiet);
     Ok(Ran {
         status,
         notes,
@@ -129,23 +160,29 @@ fn report_as(alloc: Global, report: String, is_json: bool) -> Result<String, All
     }
 }
 
+/// What is requested of the description in a file.
+#[derive(Clone, Copy)]
+struct RequestOf<'a> {
+    file: &'a str,
+    request: &'a Request,
+}
+
 /// Runs the network of a description. A file that can't be opened counts as one that can't be read.
 fn told_of<K: Computes, S: FileSystem, R: Wait + Clock + Threads + Sync, P: ProgressReceiver>(
     rt: &R,
     alloc: Global,
     files: &S,
-    request: &Request,
-    name: &str,
+    wanted: &RequestOf<'_>,
     progress: &P,
 ) -> Result<Told, Unserved>
-    requires { HasFewWorkers request.now }
-    ensures { ServesNamed (S.contents files.now) K.named K.signature (GivesRun (family K.Kinds) request.now) name.now result }
+    requires { HasFewWorkers wanted.now.request.now }
+    ensures { ServesNamed (S.contents files.now) K.named K.signature (GivesRun (family K.Kinds) wanted.now.request.now) wanted.now.file.now result }
 {
-    let mut source = match files.open(name) {
+    let mut source = match files.open(wanted.file) {
         Ok(source) => Watched::new(source),
         Err(error) => return Err(unopened(alloc, error)),
     };
-    match serve::<K, _, _, _>(rt, alloc, request, &mut source, progress) {
+    match serve::<K, _, _, _>(rt, alloc, wanted.request, &mut source, progress) {
         Ok(told) => Ok(told),
         Err(fault) => Err(Unserved {
             fault,

@@ -1,20 +1,16 @@
 //! Executes the arguments.
-ghost use Rattle.std.specs.Prelude.{◌≡◌, ◌≤◌, IfOk, IfErr, IfSome, MatchResult, None, false, OnErr, [], is_some, map, option_map};
+ghost use Rattle.std.specs.Prelude.{◌≡◌, ◌≤◌, IfOk, IfErr, MatchResult, OnErr, map};
 ghost use Rattle.kpn_front.specs.declared.status.ExitStatus.{ExitStatus as ExitStatusV};
 ghost use Rattle.hox_execute.specs.declared.running.Ran.{Ran as RanV};
 ghost use Rattle.kpn_model.specs.Families.{family};
 ghost use Rattle.hox_args.specs.HoxChoices.{HasFewHoxWorkers};
-ghost use Rattle.hox_execute.specs.Program.{Does, DrawsChoice, IsDrawStop, IsProgramStop, IsRunStop, IsStopIn, RunsChoice, Serves, want_in, want_of_run};
-ghost use Rattle.hox_files.specs.Requests.{want_of};
+ghost use Rattle.hox_execute.specs.Program.{Does, IsProgramStop, IsStopIn, Serves};
 
-use crate::checking::check;
+use crate::checking::{check, network_in};
 use crate::drawing::draw;
-use crate::progress::Asking;
 use crate::running::{Ran, run};
-use hox_args::{Choice, DrawChoice, KindsChoice, RunChoice, StreamChoice, read_words};
+use hox_args::{Choice, KindsChoice, StreamChoice, read_words};
 use hox_files::files::FileSystem;
-use hox_files::pairs::name_of;
-use hox_files::reading::CommandOptions;
 use hox_files::stops::Stop;
 use hox_run::ProgressReceiver;
 use kpn_compute::Computes;
@@ -87,12 +83,12 @@ fn execute_choice<
 {
     match choice {
         Choice::Check(chosen) => {
-            let wanted = network_in(chosen.file, chosen.formats.as_slice());
+            let wanted = network_in(chosen.file, chosen.formats.as_slice(), 1);
             let tokens = chosen.tokens.as_slice();
             exits(check::<K, S>(alloc, files, wanted, tokens, chosen.expanded))
         }
-        Choice::Run(run) => has_run(run_choice::<K, S, R, P>(rt, alloc, files, &run, progress)),
-        Choice::Draw(draw) => exits(draw_choice::<K, S, R>(rt, alloc, files, &draw)),
+        Choice::Run(chosen) => has_run(run::<K, S, R, P>(rt, alloc, files, &chosen, progress)),
+        Choice::Draw(chosen) => exits(draw::<K, S, R>(rt, alloc, files, &chosen)),
         Choice::Stream(stream) => Ok(Executed::Streams(stream)),
         Choice::Kinds(kinds) => Ok(Executed::Lists(kinds)),
     }
@@ -114,106 +110,4 @@ fn has_run<'a>(done: Result<Ran<'a>, Stop<'a>>) -> Result<Executed<'a>, Stop<'a>
         Ok(ran) => Ok(Executed::Ran(ran)),
         Err(stop) => Err(stop),
     }
-}
-
-fn network_in<'a, 'b>(file: Option<&'a str>, formats: &'b [&'a str]) -> CommandOptions<'a, 'b>
-    ensures { want_of result ≡ want_in (option_map (λ s. s.now) file.entry) (map (λ s. s.now) formats.entry.now) 1 }
-{
-    CommandOptions {
-        file: name_of(file),
-        workers: 1,
-        budget: None,
-        show: &[],
-        formats,
-        unsigned: &[],
-        is_quiet: false,
-        is_json: false,
-    }
-}
-
-fn run_choice<
-    'a,
-    K: Computes,
-    S: FileSystem,
-    R: Wait + Clock + Threads + Sync,
-    P: ProgressReceiver,
->(
-    rt: &R,
-    alloc: Global,
-    files: &mut S,
-    choice: &RunChoice<'a>,
-    progress: &P,
-) -> Result<Ran<'a>, Stop<'a>>
-    requires { (1 ≤ choice.now.workers) × (choice.now.workers ≤ 16) }
-    ensures done { IfOk result (λ ran. RunsChoice (family K.Kinds) K.named K.signature (S.contents files.old) (S.clash files.old) (S.is_steady files.old) (S.effects files.old) (S.effects files.new) choice.now ran) }
-    ensures stop { IfErr result (IsRunStop K.named K.signature (S.contents files.old) (S.clash files.old) choice.now) }
-    ensures untouched { OnErr result (S.effects files.new ≡ S.effects files.old) }
-{
-    let asking = Asking {
-        progress,
-        is_asked: choice.progress,
-    };
-    run::<K, S, R, Asking<'_, P>>(
-        rt,
-        alloc,
-        files,
-        wanted_of(choice),
-        choice.tokens.as_slice(),
-        choice.outputs.as_slice(),
-        &asking,
-    )
-}
-
-fn wanted_of<'a, 'b>(choice: &'b RunChoice<'a>) -> CommandOptions<'a, 'b>
-    ensures want { want_of result ≡ want_of_run choice.now }
-    ensures workers { result.workers ≡ choice.now.workers }
-{
-    CommandOptions {
-        file: name_of(choice.file),
-        workers: choice.workers,
-        budget: choice.budget,
-        show: choice.show.as_slice(),
-        formats: choice.formats.as_slice(),
-        unsigned: choice.unsigned.as_slice(),
-        is_quiet: choice.quiet,
-        is_json: choice.json,
-    }
-}
-
-fn draw_choice<'a, K: Computes + Titled, S: FileSystem, R: Wait + Clock + Threads + Sync>(
-    rt: &R,
-    alloc: Global,
-    files: &mut S,
-    choice: &DrawChoice<'a>,
-) -> Result<ExitStatus, Stop<'a>>
-    requires { IfSome choice.now.workers (λ n. (1 ≤ n) × (n ≤ 16)) }
-    ensures done { IfOk result (DrawsChoice (family K.Kinds) K.named K.signature (S.contents files.old) (S.clash files.old) (S.is_steady files.old) (S.effects files.old) (S.effects files.new) K.title choice.now) }
-    ensures stop { IfErr result (IsDrawStop K.named K.signature (S.contents files.old) (S.clash files.old) choice.now) }
-    ensures untouched { OnErr result (S.effects files.new ≡ S.effects files.old) }
-{
-    let wanted = CommandOptions {
-        file: name_of(choice.file),
-        workers: choice.workers.unwrap_or(1),
-        budget: None,
-        show: &[],
-        formats: choice.formats.as_slice(),
-        unsigned: &[],
-        is_quiet: false,
-        is_json: false,
-    };
-    draw::<K, S, R>(
-        rt,
-        alloc,
-        files,
-        wanted,
-        choice.tokens.as_slice(),
-        choice.direction,
-        is_run(choice),
-    )
-}
-
-fn is_run(choice: &DrawChoice<'_>) -> bool
-    ensures { result ≡ is_some choice.now.workers }
-{
-    choice.workers.is_some()
 }

@@ -12,7 +12,7 @@ use crate::texts::{byte_names, group_of, table_in};
 use hox_files::files::FileSystem;
 use hox_files::pairs::Pair;
 use hox_files::stops::Stop;
-use hox_format::{append_head, decimals_of, layout_of};
+use hox_format::{FileHead, append_head, decimals_of, layout_of};
 use hox_stream::{LaidOut, LaidTable};
 use kpn_front::Sink;
 use kpn_tokens::Decimals;
@@ -166,7 +166,12 @@ fn head_of(
 ) -> Result<Vec<u8>, AllocError>
     ensures { IfOk result (λ head. head.items ≡ head_text (form pair.now.format) (map (λ name. name.now) names.now) rate None) }
 {
-    let mut head = Vec::new(alloc);
-    append_head(alloc, &mut head, &pair.format, names, rate, None)?;
-    Ok(head)
+    let head = FileHead {
+        names,
+        rate,
+        frames: None,
+    };
+    let mut text = Vec::new(alloc);
+    append_head(alloc, &mut text, &pair.format, &head)?;
+    Ok(text)
 }

@@ -20,7 +20,7 @@ use hox_files::pairs::{
 };
 use hox_files::reading::{ReadError, names_of, read_file};
 use hox_files::stops::Stop;
-use hox_files::uses::{Role, check_uses};
+use hox_files::uses::{NamedFiles, Role, check_uses};
 use hox_format::{BeginFault, Begun, HeadFault, Resumed, begin};
 use hox_network::{channel_names, load_by_ports, sketch_by_ports};
 use hox_stream::{
@@ -144,8 +144,14 @@ fn ends_of<'a, S: FileSystem>(
     if is_written_twice(firsts.as_slice()) {
         return Err(StreamStop::OutputTwice);
     }
-    let (read, written) = (inputs.as_slice(), firsts.as_slice());
-    match check_uses(alloc, files, Role::In, file, read, written, false) {
+    let named = NamedFiles {
+        file,
+        role: Role::In,
+        inputs: inputs.as_slice(),
+        outputs: firsts.as_slice(),
+        is_told: false,
+    };
+    match check_uses(alloc, files, &named) {
         Ok(()) => Ok(StreamEnds {
             inputs,
             outputs: in_order,

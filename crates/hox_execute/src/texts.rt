@@ -8,7 +8,7 @@ ghost use Rattle.hox_files.specs.Pairs.{channels_of, group_in};
 ghost use Rattle.hox_execute.specs.Reports.{alone_text, body_text, columns, file_note, file_text, file_texts, rate_of, table_in, text_of};
 
 use hox_files::pairs::{Pair, shared_in};
-use hox_format::{append_head, append_tail, decimals_of, layout_of};
+use hox_format::{FileHead, append_head, append_tail, decimals_of, layout_of};
 use hox_network::TokenFile;
 use hox_run::StreamFile;
 use kpn_model::Listed;
@@ -148,8 +148,13 @@ fn text_of(
     let frames = Some(longest(columns).min(u32::MAX as usize) as u32);
     let body = body_text(alloc, pair, columns)?;
     let bytes = body.as_slice();
+    let head = FileHead {
+        names,
+        rate,
+        frames,
+    };
     let mut text = Vec::new(alloc);
-    append_head(alloc, &mut text, &pair.format, names, rate, frames)?;
+    append_head(alloc, &mut text, &pair.format, &head)?;
     text.extend_from_slice(bytes)?;
     append_tail(&mut text, &pair.format, bytes.len() as u64, frames)?;
     Ok(Listed::new(text))

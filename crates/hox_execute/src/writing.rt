@@ -8,6 +8,13 @@ use hox_files::pairs::{Pair, STANDARD, is_output_named};
 use kpn_front::ExitStatus;
 use kpn_model::Listed;
 
+/// The outputs of a command, and the texts of their files, in order.
+#[derive(Clone, Copy)]
+pub(crate) struct WrittenStreams<'a, 'b> {
+    pub(crate) outputs: &'b [Pair<'a>],
+    pub(crate) texts: &'b [Listed<u8>],
+}
+
 /// Writes the report, unless the command is quiet, to standard output, or to standard error if a stream goes
 /// to standard output; and each stream to its file, even if another write fails. Returns the exit status:
 /// `status`, or `WriteFailed` if a write fails.
@@ -15,12 +22,12 @@ pub(crate) fn write_told<S: FileSystem>(
     files: &mut S,
     status: ExitStatus,
     report: &String,
-    outputs: &[Pair<'_>],
-    texts: &[Listed<u8>],
+    streams: &WrittenStreams<'_, '_>,
     is_quiet: bool,
 ) -> ExitStatus
-    ensures { Writes status (told_written is_quiet outputs.now (string_bytes report.now) texts.now) (S.is_steady files.old) (S.effects files.old) (S.effects files.new) result }
+    ensures { Writes status (told_written is_quiet streams.now.outputs.now (string_bytes report.now) streams.now.texts.now) (S.is_steady files.old) (S.effects files.old) (S.effects files.new) result }
 {
+    let WrittenStreams { outputs, texts } = *streams;
     if is_quiet {
         return status_if(write_streams(files, outputs, texts), status);
     }

@@ -10,9 +10,9 @@ use crate::files::FileSystem;
 use crate::formats::{FormatStop, Formats, check_formats, is_named};
 use crate::pairs::{Pair, count_standard, firsts_of, is_named_twice, pairs_of};
 use crate::stops::Stop;
-use crate::uses::{Role, check_uses};
+use crate::uses::{NamedFiles, Role, check_uses};
 use crate::watching::Watched;
-use hox_format::{Records, layout_of, records_in, records_of};
+use hox_format::{FirstBytes, Records, layout_of, records_in, records_of};
 use hox_network::{ReadFault, Request, StreamAs, TokenFile, read_whole};
 use kpn_front::Source;
 use kpn_model::{Listed, Text};
@@ -80,8 +80,14 @@ pub fn asked_of<'a, S: FileSystem>(
         return Err(Stop::Memory);
     };
     let (read, written) = (tokens.as_slice(), firsts.as_slice());
-    let file = wanted.file;
-    match check_uses(alloc, files, Role::Tokens, file, read, written, is_told) {
+    let named = NamedFiles {
+        file: wanted.file,
+        role: Role::Tokens,
+        inputs: read,
+        outputs: written,
+        is_told,
+    };
+    match check_uses(alloc, files, &named) {
         Ok(()) => {}
         Err(stop) => return Err(stop),
     }
@@ -240,8 +246,11 @@ fn file_of<'a>(alloc: Global, pair: Pair<'a>, bytes: Vec<u8>) -> Result<TokenFil
     ensures ok { IfOk result (IsFileOf pair.entry bytes.items) }
     ensures fault { IfErr result (IsNoFileOf pair.entry bytes.items) }
 {
-    let (place, count) = (pair.place, pair.count);
-    let records = match records_in(alloc, &pair.format, place, count, bytes.as_slice(), true) {
+    let whole = FirstBytes {
+        bytes: bytes.as_slice(),
+        is_last: true,
+    };
+    let records = match records_in(alloc, &pair.format, pair.place, pair.count, &whole) {
         Ok(Ok(Some(records))) => records,
         Ok(Ok(None)) => unreachable!(),
         Ok(Err(fault)) => {

@@ -53,23 +53,29 @@ pub struct Use<'a> {
     pub file: &'a str,
 }
 
-/// Checks that files can be used together: the description `file`, the inputs in this role, the outputs, and
-/// standard output if a report goes there (`is_told`).
+/// The files that a command names: the description, the inputs in their role, and the outputs; and whether a
+/// report goes to standard output.
+#[derive(Clone, Copy, Debug)]
+pub struct NamedFiles<'a, 'b> {
+    pub file: &'a str,
+    pub role: Role,
+    pub inputs: &'b [Pair<'a>],
+    pub outputs: &'b [Pair<'a>],
+    pub is_told: bool,
+}
+
+/// Checks that the files that a command names can be used together.
 ///
 /// Errors: two uses that clash; or out of memory.
 pub fn check_uses<'a, S: FileSystem>(
     alloc: Global,
     files: &S,
-    role: Role,
-    file: &'a str,
-    inputs: &[Pair<'a>],
-    outputs: &[Pair<'a>],
-    is_told: bool,
+    named: &NamedFiles<'a, '_>,
 ) -> Result<(), Stop<'a>>
-    ensures ok { OnOk result (AreApart (S.clash files.now) (uses_in role file.now inputs.now outputs.now is_told)) }
-    ensures fault { IfErr result (IsMisuse (S.clash files.now) (uses_in role file.now inputs.now outputs.now is_told)) }
+    ensures ok { OnOk result (AreApart (S.clash files.now) (uses_in named.now.role named.now.file.now named.now.inputs.now named.now.outputs.now named.now.is_told)) }
+    ensures fault { IfErr result (IsMisuse (S.clash files.now) (uses_in named.now.role named.now.file.now named.now.inputs.now named.now.outputs.now named.now.is_told)) }
 {
-    let Ok(uses) = uses_of(alloc, role, file, inputs, outputs, is_told) else {
+    let Ok(uses) = uses_of(alloc, named) else {
         return Err(Stop::Memory);
     };
     match clash_among(files, uses.as_slice()) {
@@ -78,25 +84,18 @@ pub fn check_uses<'a, S: FileSystem>(
     }
 }
 
-fn uses_of<'a>(
-    alloc: Global,
-    role: Role,
-    file: &'a str,
-    inputs: &[Pair<'a>],
-    outputs: &[Pair<'a>],
-    is_told: bool,
-) -> Result<Vec<Use<'a>>, AllocError>
-    ensures { IfOk result (λ v. map used v.items ≡ uses_in role file.now inputs.now outputs.now is_told) }
+fn uses_of<'a>(alloc: Global, named: &NamedFiles<'a, '_>) -> Result<Vec<Use<'a>>, AllocError>
+    ensures { IfOk result (λ v. map used v.items ≡ uses_in named.now.role named.now.file.now named.now.inputs.now named.now.outputs.now named.now.is_told) }
 {
     let mut uses = Vec::new(alloc);
     uses.push(Use {
         role: Role::Description,
         channel: "",
-        file,
+        file: named.file,
     })?;
-    push_uses(&mut uses, role, inputs)?;
-    push_uses(&mut uses, Role::Out, outputs)?;
-    if is_told {
+    push_uses(&mut uses, named.role, named.inputs)?;
+    push_uses(&mut uses, Role::Out, named.outputs)?;
+    if named.is_told {
         uses.push(Use {
             role: Role::Report,
             channel: "",

@@ -27,21 +27,33 @@ pub fn layout_of(format: &Format<'_>) -> Layout
     }
 }
 
-/// Appends what precedes the tokens of the channels of these names: for a CSV file with a row of names, that
-/// row; for a WAV file its head, with the number of channels (at most 65,535), the format's samples per
-/// second, or else `rate`, and the number of frames, if known; else nothing.
+/// What a file may say before the tokens: the names of their channels, the samples per second, unless the format
+/// has them, and the number of frames, if known.
+#[derive(Clone, Copy, Debug)]
+pub struct FileHead<'a, 'b> {
+    pub names: &'b [&'a [u8]],
+    pub rate: u32,
+    pub frames: Option<u32>,
+}
+
+/// Appends what precedes the tokens: for a CSV file with a row of names, that row; for a WAV file its head, with
+/// the number of channels (at most 65,535), the format's samples per second, or else the head's, and the
+/// number of frames, if known; else nothing.
 ///
 /// Errors: out of memory. Some bytes may have been appended.
 pub fn append_head(
     alloc: Global,
     out: &mut Vec<u8>,
     format: &Format<'_>,
-    names: &[&[u8]],
-    rate: u32,
-    frames: Option<u32>,
+    head: &FileHead<'_, '_>,
 ) -> Result<(), AllocError>
-    ensures { OnOk result (out.new.items ≡ out.old.items ++ head_text (form format.now) (map (λ name. name.now) names.now) rate frames) }
+    ensures { OnOk result (out.new.items ≡ out.old.items ++ head_text (form format.now) (map (λ name. name.now) head.now.names.now) head.now.rate head.now.frames) }
 {
+    let FileHead {
+        names,
+        rate,
+        frames,
+    } = *head;
     match format {
         Format::Csv(csv) if csv.has_header => append_names(alloc, out, csv.separator, names),
         Format::Wav(wav) => {

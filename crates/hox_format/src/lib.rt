@@ -14,9 +14,9 @@ mod settings;
 mod tables;
 
 pub use formats::{Csv, Format, Raw, Wav, Which};
-pub use heads::{append_head, append_tail, layout_of};
+pub use heads::{FileHead, append_head, append_tail, layout_of};
 pub use parsing::{FormatFault, format_of};
-pub use records::{HeadFault, Records, records_in, records_of};
+pub use records::{FirstBytes, HeadFault, Records, records_in, records_of};
 pub use resumed::Resumed;
 pub use resuming::{BeginFault, Begun, begin};
 pub use tables::{Head, Shared, decimals_of, shared_by};

@@ -42,9 +42,15 @@ pub enum HeadFault {
     TooWide,
 }
 
+/// The first bytes of a file, and whether no more come.
+#[derive(Clone, Copy, Debug)]
+pub struct FirstBytes<'a> {
+    pub bytes: &'a [u8],
+    pub is_last: bool,
+}
+
 /// Returns the records for the channel at `place`, counted from 0, of the `count` channels that the file is
-/// given for, or `None` if the first `bytes` of the file don't suffice. If no more bytes come (`is_last`),
-/// never returns `None`.
+/// given for, or `None` if the first bytes of the file don't suffice. If no more come, never returns `None`.
 ///
 /// A column or channel that the format chooses overrides `place`. If it chooses none, a file of samples must
 /// have `count` channels. Samples without a head have as many channels as the format says, or else `count`. A
@@ -56,13 +62,13 @@ pub fn records_in(
     format: &Format<'_>,
     place: usize,
     count: usize,
-    bytes: &[u8],
-    is_last: bool,
+    first: &FirstBytes<'_>,
 ) -> Result<Result<Option<Records>, HeadFault>, AllocError>
-    ensures records { IfOk result (IsRecordsResult (form format.now) place count bytes.now is_last) }
-    ensures within { IfOk result (IsWithin bytes.now) }
-    ensures told { is_last ≡ true → IfOk result IsTold }
+    ensures records { IfOk result (IsRecordsResult (form format.now) place count first.now.bytes.now first.now.is_last) }
+    ensures within { IfOk result (IsWithin first.now.bytes.now) }
+    ensures told { first.now.is_last ≡ true → IfOk result IsTold }
 {
+    let FirstBytes { bytes, is_last } = *first;
     match format {
         Format::Text(decimals) => Ok(Ok(Some(to_end(Layout::Lines(*decimals))))),
         Format::Csv(csv) => csv_records(alloc, csv, place, bytes, is_last),

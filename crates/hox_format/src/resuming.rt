@@ -4,7 +4,7 @@ ghost use Rattle.hox_format.specs.Forms.{form};
 ghost use Rattle.hox_format.specs.Resuming.{IsBegun, IsFrontOf, IsNoHead, IsUnbegun, left_in, left_of, resumed_has_failed, source_of};
 
 use crate::formats::Format;
-use crate::records::{HeadFault, Records, records_in};
+use crate::records::{FirstBytes, HeadFault, Records, records_in};
 use crate::resumed::Resumed;
 use kpn_front::Source;
 use kpn_tokens::Layout;
@@ -59,14 +59,11 @@ pub fn begin<S: Source + Drop>(
         is_last: false,
     };
     'pieces: for _ in 0..u64::MAX {
-        match records_in(
-            alloc,
-            format,
-            place,
-            count,
-            front.held.as_slice(),
-            front.is_last,
-        ) {
+        let first = FirstBytes {
+            bytes: front.held.as_slice(),
+            is_last: front.is_last,
+        };
+        match records_in(alloc, format, place, count, &first) {
             Ok(Ok(Some(records))) => return Ok(resumed_at(front, records)),
             Ok(Ok(None)) => read_on(&mut front)?,
             Ok(Err(fault)) => return Err(BeginFault::Head(fault)),

@@ -1,8 +1,9 @@
 -- The result of a run.
-use Rattle.std.specs.Prelude.{◌≡◌, ℕ, Bool, true, false, if◌then◌else◌, List, [], ◌++◌, is_some, length, map, not, take, unwrap_or, Option, None, string_bytes}
+use Rattle.std.specs.Prelude.{◌≡◌, ◌<◌, ◌≤◌, ℕ, Bool, true, false, if◌then◌else◌, List, [], ◌++◌, is_some, length, map, not, take, unwrap_or, Option, None, string_bytes}
 use Rattle.std.specs.List.{All, list_any, position}
 use Rattle.kpn_model.specs.declared.token.Token.{Token}
 use Rattle.kpn_model.specs.declared.history.Entry.{Entry}
+use Rattle.kpn_model.specs.declared.kinds.Card.{Card}
 use Rattle.kpn_model.specs.declared.history.End.{End}
 use Rattle.kpn_model.specs.declared.history.End.TheVariants.{Budget, Ceiling}
 use Rattle.kpn_model.specs.declared.history.Place.{Place}
@@ -27,9 +28,16 @@ use Rattle.kpn_front.specs.declared.status.ExitStatus.TheVariants.{Success, Budg
 use Rattle.hox_run.specs.declared.shown.ChannelAs.{ChannelAs}
 use Rattle.hox_run.specs.declared.files.StreamFile.{StreamFile}
 use Rattle.hox_run.specs.declared.telling.Told.{Told}
-use Rattle.hox_run.specs.Cuts.{Leaves, before_verdict, cut_text}
+use Rattle.hox_run.specs.Cuts.{IsWithin, Leaves, before_verdict, cut_text}
 use Rattle.hox_run.specs.Judging.{AreDry, IsJudged, active_part}
 use Rattle.hox_run.specs.Notes.{AreNotes}
+
+-- several workers may run a network with bodies of these cards: they are those of its processes, and each wanted stream
+-- is that of one of its channels
+pub record MayShareRun (net : Network) (held : List Card) (n : ℕ) (outputs : List (ChannelAs Layout)) : Type 0 where
+  pub cards : held ≡ map (λ p. p.card) net.processes
+  pub workers : (1 < n) × (n ≤ 16)
+  pub within : All (IsWithin net) outputs
 
 abbrev pub status_of_verdict : Verdict → ExitStatus
 status_of_verdict Finished = Success

@@ -17,5 +17,5 @@ pub use notes::{Notes, SourceNote};
 pub use progress::{ProgressReceiver, Silent, SoFar};
 pub use running::execute;
 pub use serving::serve;
-pub use shown::{ChannelAs, WantedStreams};
+pub use shown::{ChannelAs, WantedRun, WantedStreams};
 pub use telling::Told;

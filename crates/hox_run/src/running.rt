@@ -5,10 +5,10 @@ ghost use Rattle.kpn_model.specs.Families.{family};
 ghost use Rattle.kpn_state.specs.declared.standing.Standing.TheVariants.{Out};
 ghost use Rattle.kpn_state.specs.Standings.{standing};
 ghost use Rattle.hox_run.specs.Cuts.{IsWithin};
-ghost use Rattle.hox_run.specs.Telling.{TellsRun};
+ghost use Rattle.hox_run.specs.Telling.{MayShareRun, TellsRun};
 
 use crate::progress::{OnBoard, ProgressReceiver, tell_of};
-use crate::shown::WantedStreams;
+use crate::shown::{WantedRun, WantedStreams};
 use crate::telling::{Told, told_of};
 use hox_network::NoResult;
 use kpn_body::Body;
@@ -31,8 +31,8 @@ const PIECE: u64 = 100_000;
 /// The milliseconds between two looks at several workers.
 const PERIOD: u64 = 100;
 
-/// Runs a network with 1 to 16 workers, and returns its exit status, its report with the verdict, and the
-/// wanted streams. A single worker is the calling thread. `progress` receives the progress of the run.
+/// Runs a network as is wanted, with 1 to 16 workers, and returns its exit status, its report with the verdict,
+/// and the wanted streams. A single worker is the calling thread.
 ///
 /// If the run ends by itself, every run of the network that is over gives the same result, whatever the
 /// schedule and the number of workers (Kahn 1974). If the budget cuts the run, each of its streams is a
@@ -43,24 +43,22 @@ pub fn execute<K: Computes, R: Wait + Clock + Threads + Sync, P: ProgressReceive
     rt: &R,
     alloc: Global,
     net: Net<K>,
-    workers: usize,
-    wanted: &WantedStreams<'_>,
-    progress: &P,
+    wanted: &WantedRun<'_, '_, P>,
 ) -> Result<Told, NoResult>
-    requires workers { (1 ≤ workers) × (workers ≤ 16) }
-    requires within { All (IsWithin net) wanted.now.outputs.now }
-    ensures told { IfOk result (TellsRun (family K.Kinds) net wanted.now.show.now wanted.now.outputs.now) }
-    ensures lost { result ≡ Err NoResult.Lost → 1 < workers }
+    requires workers { (1 ≤ wanted.now.workers) × (wanted.now.workers ≤ 16) }
+    requires within { All (IsWithin net) wanted.now.streams.outputs.now }
+    ensures told { IfOk result (TellsRun (family K.Kinds) net wanted.now.streams.show.now wanted.now.streams.outputs.now) }
+    ensures lost { result ≡ Err NoResult.Lost → 1 < wanted.now.workers }
 {
     let Ok(bodies) = bodies_of(alloc, &net) else {
         return Err(NoResult::Memory);
     };
-    if workers == 1 {
-        execute_alone(alloc, net, bodies, wanted, progress).map_err(|_| NoResult::Memory)
-    } else if progress.is_wanted() {
-        execute_watched(rt, alloc, net, bodies, workers, wanted, progress)
+    if wanted.workers == 1 {
+        execute_alone(alloc, net, bodies, wanted).map_err(|_| NoResult::Memory)
+    } else if wanted.progress.is_wanted() {
+        execute_watched(rt, alloc, net, bodies, wanted)
     } else {
-        execute_by_workers(rt, alloc, net, bodies, workers, wanted)
+        execute_by_workers(rt, alloc, net, bodies, wanted)
     }
 }
 
@@ -68,19 +66,18 @@ fn execute_alone<K: Computes, P: ProgressReceiver>(
     alloc: Global,
     net: Net<K>,
     bodies: Vec<CardBody<K>>,
-    wanted: &WantedStreams<'_>,
-    progress: &P,
+    wanted: &WantedRun<'_, '_, P>,
 ) -> Result<Told, AllocError>
-    requires within { All (IsWithin net) wanted.now.outputs.now }
-    ensures { IfOk result (TellsRun (family K.Kinds) net wanted.now.show.now wanted.now.outputs.now) }
+    requires { All (IsWithin net) wanted.now.streams.outputs.now }
+    ensures { IfOk result (TellsRun (family K.Kinds) net wanted.now.streams.show.now wanted.now.streams.outputs.now) }
 {
     let Ok(mut machine) = Machine::<CardBody<K>, Tallied>::open_with_keeper(alloc, net, bodies)
     else {
         return Err(AllocError);
     };
-    finish(&mut machine, progress);
+    finish(&mut machine, wanted.progress);
     let chronicle = machine.into_chronicle();
-    told_of(alloc, &chronicle, chronicle.keeper(), wanted)
+    told_of(alloc, &chronicle, chronicle.keeper(), &wanted.streams)
 }
 
 /// Runs to an end in the calling thread, a piece at a time. No process may be out.
@@ -108,25 +105,29 @@ fn go_on<B: Body, H: Keeper>(machine: &mut Machine<B, H>)
     machine.ask_in_place(PIECE);
 }
 
-fn execute_by_workers<K: Computes, R: Wait + Clock + Threads + Sync>(
+fn execute_by_workers<K: Computes, R: Wait + Clock + Threads + Sync, P: ProgressReceiver>(
     rt: &R,
     alloc: Global,
     net: Net<K>,
     bodies: Vec<CardBody<K>>,
-    workers: usize,
-    wanted: &WantedStreams<'_>,
+    wanted: &WantedRun<'_, '_, P>,
 ) -> Result<Told, NoResult>
-    requires cards { map ⟦<CardBody<K> as Body>⟧.card bodies.items ≡ map (λ p. p.card) net.processes }
-    requires workers { (1 < workers) × (workers ≤ 16) }
-    requires within { All (IsWithin net) wanted.now.outputs.now }
-    ensures { IfOk result (TellsRun (family K.Kinds) net wanted.now.show.now wanted.now.outputs.now) }
+    requires { MayShareRun net (map ⟦<CardBody<K> as Body>⟧.card bodies.items) wanted.now.workers wanted.now.streams.outputs.now }
+    ensures { IfOk result (TellsRun (family K.Kinds) net wanted.now.streams.show.now wanted.now.streams.outputs.now) }
 {
     match run_with_keeper::<CardBody<K>, Packed, R, Prompt>(
-        rt, alloc, net, bodies, workers, &Prompt,
+        rt,
+        alloc,
+        net,
+        bodies,
+        wanted.workers,
+        &Prompt,
     ) {
         Ok(finish) => {
             let chronicle = finish.chronicle();
-            told_of(alloc, chronicle, chronicle.keeper(), wanted).map_err(|_| NoResult::Memory)
+            told_of(alloc, chronicle, chronicle.keeper(), &wanted.streams).map_err(
+                |_| NoResult::Memory,
+            )
         }
         Err(RunFault::Memory { .. }) => Err(NoResult::Memory),
         Err(RunFault::Lost { .. }) => Err(NoResult::Lost),
@@ -141,21 +142,26 @@ fn execute_watched<K: Computes, R: Wait + Clock + Threads + Sync, P: ProgressRec
     alloc: Global,
     net: Net<K>,
     bodies: Vec<CardBody<K>>,
-    workers: usize,
-    wanted: &WantedStreams<'_>,
-    progress: &P,
+    wanted: &WantedRun<'_, '_, P>,
 ) -> Result<Told, NoResult>
-    requires cards { map ⟦<CardBody<K> as Body>⟧.card bodies.items ≡ map (λ p. p.card) net.processes }
-    requires workers { (1 < workers) × (workers ≤ 16) }
-    requires within { All (IsWithin net) wanted.now.outputs.now }
-    ensures { IfOk result (TellsRun (family K.Kinds) net wanted.now.show.now wanted.now.outputs.now) }
+    requires { MayShareRun net (map ⟦<CardBody<K> as Body>⟧.card bodies.items) wanted.now.workers wanted.now.streams.outputs.now }
+    ensures { IfOk result (TellsRun (family K.Kinds) net wanted.now.streams.show.now wanted.now.streams.outputs.now) }
 {
-    let observer = OnBoard { progress };
+    let observer = OnBoard {
+        progress: wanted.progress,
+    };
     let period = Duration::from_millis(PERIOD);
     match run_watched_with_keeper::<CardBody<K>, Packed, R, Prompt, OnBoard<'_, P>>(
-        rt, alloc, net, bodies, workers, &Prompt, period, &observer,
+        rt,
+        alloc,
+        net,
+        bodies,
+        wanted.workers,
+        &Prompt,
+        period,
+        &observer,
     ) {
-        Ok(ran) => told_of_watched(alloc, &ran, wanted),
+        Ok(ran) => told_of_watched(alloc, &ran, &wanted.streams),
         Err(WatchedFault::Memory { .. }) => Err(NoResult::Memory),
         Err(WatchedFault::Stopped { .. }) => Err(NoResult::Lost),
         Err(WatchedFault::Lost { .. }) => Err(NoResult::Lost),

@@ -10,7 +10,7 @@ ghost use Rattle.hox_run.specs.Serving.{AreNamed, GivesRun, IsNamed, names_of};
 
 use crate::progress::ProgressReceiver;
 use crate::running::execute;
-use crate::shown::{ChannelAs, WantedStreams};
+use crate::shown::{ChannelAs, WantedRun, WantedStreams};
 use crate::telling::Told;
 use hox_network::{Fault, NoResult, Request, StreamAs, channel_names, prepare};
 use kpn_compute::Computes;
@@ -58,11 +58,16 @@ fn serve_prepared<K: Computes, R: Wait + Clock + Threads + Sync, P: ProgressRece
 {
     let show = shown_in(alloc, &net, request.show.as_slice())?;
     let outputs = outputs_in(alloc, &net, request.outputs.as_slice())?;
-    let wanted = WantedStreams {
+    let streams = WantedStreams {
         show: show.as_slice(),
         outputs: outputs.as_slice(),
     };
-    match execute(rt, alloc, net, request.workers, &wanted, progress) {
+    let wanted = WantedRun {
+        workers: request.workers,
+        streams,
+        progress,
+    };
+    match execute(rt, alloc, net, &wanted) {
         Ok(told) => Ok(told),
         Err(NoResult::Memory) => Err(Fault::Memory),
         Err(NoResult::Lost) => Err(Fault::Lost),

@@ -27,6 +27,14 @@ pub struct WantedStreams<'a> {
     pub outputs: &'a [ChannelAs<Layout>],
 }
 
+/// How a run is wanted: by how many workers, which of its streams, and what receives its progress.
+#[derive(Drop)]
+pub struct WantedRun<'a, 'b, P> {
+    pub workers: usize,
+    pub streams: WantedStreams<'a>,
+    pub progress: &'b P,
+}
+
 /// Appends a line `stream` for each channel of `show`, if the run has a report. Errors: out of memory.
 pub(crate) fn push_before_verdict<K: Kinds, E: Entries>(
     alloc: Global,
@@ -70,22 +78,33 @@ fn push_stream<K: Kinds, E: Entries>(
     ensures { OnOk result (string_bytes out.new ≡ string_bytes out.old ++ tokens_line run.now.net.now word.now (slice_index_or (each_channel run.now.net.now (λ b. stream run.now.net.now (E.entries run.now.history.now) b)) channel.channel []) channel) }
 {
     let tokens = stream_of_entries(alloc, run.net, run.history, channel.channel)?;
-    push_line(alloc, out, run.net, tokens.as_slice(), channel, word)
+    let line = StreamLine {
+        word,
+        channel,
+        tokens: tokens.as_slice(),
+    };
+    push_line(alloc, out, run.net, &line)
+}
+
+/// A line that tells the tokens of a channel, and the word it begins with.
+#[derive(Clone, Copy)]
+struct StreamLine<'a> {
+    word: &'a str,
+    channel: ChannelAs<Decimals>,
+    tokens: &'a [Token],
 }
 
 fn push_line<K: Kinds>(
     alloc: Global,
     out: &mut String,
     net: &Net<K>,
-    tokens: &[Token],
-    channel: ChannelAs<Decimals>,
-    word: &str,
+    line: &StreamLine<'_>,
 ) -> Result<(), AllocError>
-    ensures { OnOk result (string_bytes out.new ≡ string_bytes out.old ++ tokens_line net.now word.now tokens.now channel) }
+    ensures { OnOk result (string_bytes out.new ≡ string_bytes out.old ++ tokens_line net.now line.now.word.now line.now.tokens.now line.now.channel) }
 {
-    out.push_str(word)?;
-    out.push_str(channel_name(net, channel.channel))?;
-    push_tokens(alloc, out, channel.written, tokens)?;
+    out.push_str(line.word)?;
+    out.push_str(channel_name(net, line.channel.channel))?;
+    push_tokens(alloc, out, line.channel.written, line.tokens)?;
     out.push_str("\n")
 }
 

@@ -3,6 +3,7 @@ use Rattle.std.specs.Prelude.{◌≡◌, ◌<◌, ◌≤◌, ◌+◌, ◌++◌, 
 use Rattle.std.specs.List.{list_any}
 use Rattle.kpn_model.specs.declared.token.Token.{Token}
 use Rattle.kpn_model.specs.declared.token.Sort.{Sort}
+use Rattle.kpn_model.specs.Valid.{IsOfSort}
 use Rattle.kpn_tokens.specs.declared.layouts.Layout.{Layout}
 use Rattle.kpn_tokens.specs.declared.layouts.Layout.TheVariants.{Lines, Fields, Frames}
 use Rattle.kpn_tokens.specs.declared.layouts.RecordFault.{RecordFault}
@@ -12,6 +13,7 @@ use Rattle.kpn_tokens.specs.Samples.{frame_size}
 use Rattle.hox_stream.specs.declared.cutting.Refusal.{Refusal}
 use Rattle.hox_stream.specs.declared.cutting.Refusal.TheVariants.{Fault, TooLong}
 use Rattle.hox_stream.specs.declared.cutting.Next.{Next}
+use Rattle.hox_stream.specs.declared.cutting.Told.{Told}
 use Rattle.hox_stream.specs.declared.cutting.Next.TheVariants.{Record, Refused, Wanting, Memory}
 
 -- whether the first record is complete
@@ -32,6 +34,11 @@ IsNext layout sort bytes last (Record said used) =
 IsNext layout sort bytes last (Refused refusal) = IsRefused layout sort bytes last refusal
 IsNext layout sort bytes last Wanting = (IsEnded layout bytes → ⊥) × (length bytes ≤ 4096) × (last ≡ true → bytes ≡ [])
 IsNext layout sort bytes last Memory = 0 < length bytes
+
+-- the first record has this token, of the sort, and this many bytes, whatever comes after it
+pub record IsTold (layout : Layout) (sort : Sort) (bytes : List ℕ) (told : Told) : Type 0 where
+  pub next : (last : Bool) → IsNext layout sort bytes last (Record (Some told.token) told.used)
+  pub sorted : IsOfSort sort told.token
 
 -- the first `records` records of a text are these tokens, and `left` follows them
 pub record Leads (layout : Layout) (sort : Sort) (text left : List ℕ) (tokens : List Token) (records : ℕ) : Type 0 where

@@ -1,18 +1,19 @@
 -- Tokens that come in from a source, and go out to a sink.
-use Rattle.std.specs.Prelude.{◌≡◌, ◌<◌, ◌≤◌, ◌+◌, ◌-◌, ◌^◌, ◌++◌, ◌&&◌, ◌||◌, ◌⊎◌, ℕ, Bool, true, false, not, List, [], length, map, if◌then◌else◌}
+use Rattle.std.specs.Prelude.{◌≡◌, ◌<◌, ◌≤◌, ◌+◌, ◌-◌, ◌^◌, ◌++◌, ◌&&◌, ◌||◌, ◌⊎◌, ℕ, Bool, true, false, not, List, [], length, map, if◌then◌else◌, Option, Result, Ok, IfErr}
 use Rattle.std.specs.List.{flat_map, list_all, take_while}
 use Rattle.std.specs.Io.Iter.{u64_saturate}
-use Rattle.std.specs.Io.KnownBytes.{Appends, Consumes}
+use Rattle.std.specs.Io.KnownBytes.{Appends, Consumes, IsAtEnd}
 use Rattle.kpn_model.specs.declared.token.Token.{Token}
 use Rattle.kpn_model.specs.Network.{Family}
 use Rattle.kpn_tokens.specs.declared.layouts.Layout.{Layout}
 use Rattle.kpn_tokens.specs.Records.{clips, fits, misfits, record_text}
 use Rattle.kpn_flow.specs.Events.{Fed, Drained, Flows}
-use Rattle.kpn_flow.specs.Flows.{FlowView, is_among}
+use Rattle.kpn_flow.specs.Flows.{FlowView, IsSameFlow, is_among}
 use Rattle.kpn_flow.specs.Preloaded.{IsAtEnds}
 use Rattle.hox_stream.specs.declared.outlet.WriteFault.{WriteFault}
 use Rattle.hox_stream.specs.declared.outlet.WriteFault.TheVariants.{Failed, Misfit, Memory}
-use Rattle.hox_stream.specs.Cutting.{Passes, has_record}
+use Rattle.hox_stream.specs.declared.cutting.Next.TheVariants.{Record}
+use Rattle.hox_stream.specs.Cutting.{IsNext, Passes, has_record}
 use Rattle.hox_stream.specs.Views.{InletView, OutletView, unread}
 
 -- m is n + k; a count stays at 2 ^ 64 - 1 once it is there
@@ -82,6 +83,11 @@ pub record IsNotRead (p q : InletView) : Type 0 where
   pub remaining : q.remaining ≡ p.remaining
   pub is_over : q.is_over ≡ p.is_over
 
+-- the next record of a source has this many bytes, and this token, if any
+pub record IsNextIn (p : InletView) (said : Option Token) (used : ℕ) : Type 0 where
+  pub next : IsNext p.layout p.sort p.kept p.is_over (Record said used)
+  pub at_end : p.is_over ≡ true → IsAtEnd p.remaining
+
 -- the source was read once, and then only records were taken
 pub record IsReadOnce (p q : InletView) : Type 0 where
   pub between : InletView
@@ -102,6 +108,11 @@ module _ (kinds : Family) (s t : FlowView) where
     pub flows : Flows kinds s.network s.state (map (λ token. Fed p.channel token) tokens) t.state
     pub at_ends : IsAtEnds (is_among s.inputs) (is_among s.outputs) (map (λ token. Fed p.channel token) tokens)
 
+  -- so were the tokens of bytes that were read before; the source was not read
+  pub record PoursKept (p q : InletView) : Type 0 where
+    pub pours : Pours p q
+    pub unread : IsNotRead p q
+
   -- the tokens drained from a channel were written to its sink; nothing else happened
   pub record Tells (p q : OutletView) : Type 0 where
     pub same : IsSameNet s t
@@ -109,3 +120,10 @@ module _ (kinds : Family) (s t : FlowView) where
     pub writes : Writes p q tokens
     pub flows : Flows kinds s.network s.state (map (λ token. Drained p.channel token) tokens) t.state
     pub at_ends : IsAtEnds (is_among s.inputs) (is_among s.outputs) (map (λ token. Drained p.channel token) tokens)
+
+  -- so they were, if there were any, up to a fault; the flow has the same ends
+  pub record TellsSink (p q : OutletView) (result : Result Bool WriteFault) : Type 0 where
+    pub tells : Tells p q
+    pub same : IsSameFlow s t
+    pub none : result ≡ Ok false → t.state ≡ s.state
+    pub fault : IfErr result (IsWriteFault q)

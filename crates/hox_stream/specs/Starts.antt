@@ -1,5 +1,5 @@
 -- A stream at its start, and why one is not opened.
-use Rattle.std.specs.Prelude.{◌≡◌, ◌≢◌, ◌<◌, ◌||◌, ℕ, Bool, true, not, List, [], length, map, get_or, slice_get, option_map, Option, Some, None}
+use Rattle.std.specs.Prelude.{◌≡◌, ◌≢◌, ◌<◌, ◌||◌, ℕ, Bool, true, false, not, List, [], length, map, get_or, slice_get, option_map, Option, Some, None}
 use Rattle.std.specs.List.{list_any}
 use Rattle.kpn_model.specs.declared.kinds.Card.{Card}
 use Rattle.kpn_model.specs.declared.kinds.Signature.{Signature}
@@ -11,7 +11,7 @@ use Rattle.kpn_sketch.specs.declared.fault.NetFault.{NetFault}
 use Rattle.kpn_sketch.specs.declared.fault.NetFault.TheVariants.{Memory as NoMemoryForNet}
 use Rattle.kpn_sketch.specs.declared.sketch.Sketch.{Sketch}
 use Rattle.kpn_net.specs.Faults.{first_fault}
-use Rattle.kpn_flow.specs.Ends.{AreApart, has_twice, stops_at_once}
+use Rattle.kpn_flow.specs.Ends.{AreApart, has_twice, is_no_channel, stops_at_once}
 use Rattle.kpn_flow.specs.Flows.{FlowView, AreEnds, is_among, nothing_counted}
 use Rattle.hox_stream.specs.declared.starting.Way.{Way}
 use Rattle.hox_stream.specs.declared.starting.Way.TheVariants.{In, Out}
@@ -60,6 +60,14 @@ module _ (kinds : Family) (net : Network) where
   -- the process at the outer end of c does more than stop
   abbrev pub is_busy : Way → ℕ → Bool
   is_busy way c = not (stops_at_once kinds (cards_in net) (outer_process way (channel_of net c)))
+
+  -- these are the cards of its processes; each input can be fed, each output drained
+  pub record MayFlow (held : List Card) (ins outs : List ℕ) : Type 0 where
+    pub cards : held ≡ cards_in net
+    pub inputs : list_any (is_no_channel net) ins ≡ false
+    pub outputs : list_any (is_no_channel net) outs ≡ false
+    pub fed : list_any (is_busy In) ins ≡ false
+    pub drained : list_any (is_busy Out) outs ≡ false
 
   -- the flow is at the start of the network; only the outside is at its ends
   pub record IsFresh (s : FlowView) : Type 0 where

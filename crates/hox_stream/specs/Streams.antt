@@ -1,9 +1,9 @@
 -- A flow between sources and sinks.
-use Rattle.std.specs.Prelude.{◌≡◌, ◌≢◌, ◌<◌, ◌+◌, ◌&&◌, ◌⊎◌, ℕ, Bool, true, false, List, [], length, get_or}
+use Rattle.std.specs.Prelude.{◌≡◌, ◌≢◌, ◌<◌, ◌+◌, ◌&&◌, ◌⊎◌, ℕ, Bool, true, false, List, [], length, get_or, Result, Ok, IfErr}
 use Rattle.kpn_model.specs.Network.{Family, channel_of}
 use Rattle.kpn_model.specs.Endings.{NothingGoesOn}
 use Rattle.kpn_flow.specs.Events.{Event, Flows, fed, drained}
-use Rattle.kpn_flow.specs.Flows.{FlowView, is_among}
+use Rattle.kpn_flow.specs.Flows.{FlowView, IsSameFlow, is_among}
 use Rattle.kpn_flow.specs.Pauses.{NoneCanHelp}
 use Rattle.kpn_flow.specs.Pieces.{IsOneRunInPieces}
 use Rattle.kpn_flow.specs.Preloaded.{IsAtEnds}
@@ -105,6 +105,33 @@ IsFinish kinds s ins outs (Apart k) = IsOutAt outs k (λ p. ⊥) (λ p. IsTableF
 IsFinish kinds s ins outs Idle = NoneIsWaitedFor s ins
 IsFinish kinds s ins outs Memory = Unit {0}
 IsFinish kinds s ins outs Cut = Unit {0}
+
+module _ (kinds : Family) (s t : FlowView) where
+  -- tokens were moved from channels to sinks of one channel, if there were any, or the stream ends; nothing else happened
+  pub record TellsSinks (before after : List OutletView) (result : Result Bool StreamFinish) : Type 0 where
+    pub streams : (ins : List InletView) (tables : List TableView) → Streams kinds s t ins ins (outs before tables) (outs after tables)
+    pub same : IsSameFlow s t
+    pub none : result ≡ Ok false → t.state ≡ s.state
+    pub finish : IfErr result (λ f. (ins : List InletView) (tables : List TableView) → IsFinish kinds t ins (outs after tables) f)
+
+  -- the same of tables, which follow `first` sinks
+  pub record TellsTables (before after : List TableView) (first : ℕ) (result : Result Bool StreamFinish) : Type 0 where
+    pub streams : (ins : List InletView) (sinks : List OutletView) → Streams kinds s t ins ins (outs sinks before) (outs sinks after)
+    pub same : IsSameFlow s t
+    pub none : result ≡ Ok false → t.state ≡ s.state
+    pub finish : IfErr result (λ f. (ins : List InletView) (sinks : List OutletView) → length sinks ≡ first → IsFinish kinds t ins (outs sinks after) f)
+
+  -- and of all sinks
+  pub record TellsOuts (before after : OutsView) (result : Result Bool StreamFinish) : Type 0 where
+    pub streams : (ins : List InletView) → Streams kinds s t ins ins before after
+    pub same : IsSameFlow s t
+    pub none : result ≡ Ok false → t.state ≡ s.state
+    pub finish : IfErr result (λ f. (ins : List InletView) → IsFinish kinds t ins after f)
+
+  -- the flow went on, and the stream ends for this cause
+  pub record StreamsTo (ins ins_after : List InletView) (before after : OutsView) (cause : StreamFinish) : Type 0 where
+    pub streams : Streams kinds s t ins ins_after before after
+    pub finish : IsFinish kinds t ins_after after cause
 
 -- events led the flow on until it ended for this cause, or until writing the last rows failed. What happened
 -- is a run of the network that held all its input from the start

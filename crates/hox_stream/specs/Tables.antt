@@ -1,5 +1,5 @@
 -- Tokens that go out to a table: a file of several channels.
-use Rattle.std.specs.Prelude.{◌≡◌, ◌<◌, ◌≤◌, ◌++◌, ◌||◌, ◌==◌, ℕ, zero, suc, true, false, not, List, [], ◌∷◌, None, drop, get_or, if◌then◌else◌, is_some, length, map, min, ⊤}
+use Rattle.std.specs.Prelude.{◌≡◌, ◌<◌, ◌≤◌, ◌++◌, ◌||◌, ◌==◌, ℕ, Bool, zero, suc, true, false, not, List, [], ◌∷◌, None, drop, get_or, if◌then◌else◌, is_some, length, map, min, ⊤, Result, Ok, IfErr}
 use Rattle.std.specs.List.{AllByRecursion, flat_map}
 use Rattle.std.specs.Io.KnownBytes.{Appends}
 use Rattle.kpn_model.specs.declared.token.Token.{Token}
@@ -8,7 +8,7 @@ use Rattle.kpn_tokens.specs.declared.layouts.Cell.{Cell}
 use Rattle.kpn_tokens.specs.Records.{listed}
 use Rattle.kpn_tokens.specs.Tables.{ColumnView, longest, row_text, rows_text}
 use Rattle.kpn_flow.specs.Events.{Drained, Flows}
-use Rattle.kpn_flow.specs.Flows.{FlowView, is_among}
+use Rattle.kpn_flow.specs.Flows.{FlowView, IsSameFlow, is_among}
 use Rattle.kpn_flow.specs.Preloaded.{IsAtEnds}
 use Rattle.hox_stream.specs.declared.table.TableFault.{TableFault}
 use Rattle.hox_stream.specs.declared.table.TableFault.TheVariants.{Failed, Misfit, Apart, Memory}
@@ -112,6 +112,12 @@ IsTableFault q Memory = q.has_failed ≡ true
 IsTableFault q Misfit = (i : ℕ) × (i < length q.lanes) × ((lane_at q i).is_misfit ≡ true)
 IsTableFault q Apart = (i : ℕ) × (i < length q.lanes) × (1000000 < length (lane_at q i).waiting)
 
+-- n rows were written, or a write failed
+pub record WritesRows {X : Type 0} (p q : TableView) (n : ℕ) (result : Result X TableFault) : Type 0 where
+  pub rows : RowsGo p q n
+  pub failed : IfErr result (λ _. q.has_failed ≡ true)
+  pub fault : IfErr result (IsTableFault q)
+
 module _ (kinds : Family) (s t : FlowView) where
   -- the tokens drained from a column's channel were taken into it; nothing else happened
   pub record TellsLane (p q : TableView) (i : ℕ) : Type 0 where
@@ -120,3 +126,10 @@ module _ (kinds : Family) (s t : FlowView) where
     pub writes : WritesTable p q (only_at i tokens)
     pub flows : Flows kinds s.network s.state (map (λ token. Drained (lane_at p i).head.channel token) tokens) t.state
     pub at_ends : IsAtEnds (is_among s.inputs) (is_among s.outputs) (map (λ token. Drained (lane_at p i).head.channel token) tokens)
+
+  -- so they were, if there were any, up to a fault; the flow has the same ends
+  pub record TellsColumn (p q : TableView) (i : ℕ) (result : Result Bool TableFault) : Type 0 where
+    pub tells : TellsLane p q i
+    pub same : IsSameFlow s t
+    pub none : result ≡ Ok false → t.state ≡ s.state
+    pub fault : IfErr result (IsTableFault q)

@@ -1,8 +1,10 @@
 -- Whose turn it is among the sources.
-use Rattle.std.specs.Prelude.{◌≡◌, ◌<◌, ◌≤◌, ◌+◌, ◌⊎◌, ℕ, true, false, List, length}
+use Rattle.std.specs.Prelude.{◌≡◌, ◌<◌, ◌≤◌, ◌+◌, ◌⊎◌, ℕ, true, false, List, length, Option, IfSome}
+use Rattle.kpn_model.specs.Network.{Family}
 use Rattle.kpn_flow.specs.Flows.{FlowView}
+use Rattle.hox_stream.specs.declared.finish.StreamFinish.{StreamFinish}
 use Rattle.hox_stream.specs.Ports.{IsNotRead, IsReadOnce, wants_more}
-use Rattle.hox_stream.specs.Streams.{AreWritten, inlet_at, is_waited_for}
+use Rattle.hox_stream.specs.Streams.{AreWritten, IsFinish, Streams, inlet_at, is_waited_for}
 use Rattle.hox_stream.specs.Views.{InletView, OutsView}
 
 -- going round from n on, j comes before k
@@ -32,3 +34,16 @@ AreReadIfWanted ins after = (k : ℕ) → k < length ins → wants_more (inlet_a
 -- no source is read while output waits
 abbrev pub AreReadUnheld : List InletView → List InletView → OutsView → Type 0
 AreReadUnheld ins after outs = AreWritten outs ⊎ ((k : ℕ) → k < length ins → IsNotRead (inlet_at ins k) (inlet_at after k))
+
+module _ (kinds : Family) (s t : FlowView) (ins after : List InletView) where
+  -- a source was poured, or none was, and read only if it wanted more; or the stream ends for this cause
+  pub record PoursOne (result : Option StreamFinish) : Type 0 where
+    pub streams : (outs : OutsView) → Streams kinds s t ins after outs outs
+    pub finish : IfSome result (λ f. (outs : OutsView) → IsFinish kinds t after outs f)
+    pub only_if_wanted : AreReadIfWanted ins after
+
+  -- the flow went on, and no source was read while output waits; or the stream ends for this cause
+  pub record GoesOn (before outs : OutsView) (result : Option StreamFinish) : Type 0 where
+    pub streams : Streams kinds s t ins after before outs
+    pub finish : IfSome result (IsFinish kinds t after outs)
+    pub unheld : AreReadUnheld ins after outs

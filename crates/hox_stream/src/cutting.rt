@@ -1,8 +1,7 @@
 //! Cuts text that arrives in pieces into records.
-ghost use Rattle.std.specs.Prelude.{◌≡◌, Bool, IfSome, Ok, Some};
-ghost use Rattle.kpn_model.specs.Valid.{IsOfSort};
+ghost use Rattle.std.specs.Prelude.{◌≡◌, IfSome, Ok, Some};
 ghost use Rattle.kpn_tokens.specs.declared.layouts.Layout.TheVariants as layouts;
-ghost use Rattle.hox_stream.specs.Cutting.{IsNext};
+ghost use Rattle.hox_stream.specs.Cutting.{IsNext, IsTold};
 
 use kpn_tokens::{
     Decimals, Frame, Layout, RecordFault, Sort, Token, first_line, record_in, token_of_frame,
@@ -42,8 +41,7 @@ pub(crate) struct Told {
 /// Returns the token of the first record, if that is a whole line or frame with one; see [`next_of`] for the others.
 #[inline(always)]
 pub(crate) fn told_by(layout: &Layout, sort: Sort, bytes: &[u8]) -> Option<Told>
-    ensures next { IfSome result (λ told. (last : Bool) → IsNext layout.now sort bytes.now last (Next.Record (Some told.token) told.used)) }
-    ensures sorted { IfSome result (λ told. IsOfSort sort told.token) }
+    ensures { IfSome result (IsTold layout.now sort bytes.now) }
 {
     match layout {
         Layout::Lines(decimals) => told_by_line(*decimals, sort, bytes),
@@ -54,8 +52,7 @@ pub(crate) fn told_by(layout: &Layout, sort: Sort, bytes: &[u8]) -> Option<Told>
 
 #[inline(always)]
 fn told_by_line(decimals: Decimals, sort: Sort, bytes: &[u8]) -> Option<Told>
-    ensures next { IfSome result (λ told. (last : Bool) → IsNext (layouts.Lines decimals) sort bytes.now last (Next.Record (Some told.token) told.used)) }
-    ensures sorted { IfSome result (λ told. IsOfSort sort told.token) }
+    ensures { IfSome result (IsTold (layouts.Lines decimals) sort bytes.now) }
 {
     match first_line(decimals, sort, bytes) {
         Some(line) if line.length <= LONGEST_RECORD => as_told(line.said, line.length + 1),
@@ -65,8 +62,7 @@ fn told_by_line(decimals: Decimals, sort: Sort, bytes: &[u8]) -> Option<Told>
 
 #[inline(always)]
 fn told_by_frame(frame: &Frame, sort: Sort, bytes: &[u8]) -> Option<Told>
-    ensures next { IfSome result (λ told. (last : Bool) → IsNext (layouts.Frames frame.now) sort bytes.now last (Next.Record (Some told.token) told.used)) }
-    ensures sorted { IfSome result (λ told. IsOfSort sort told.token) }
+    ensures { IfSome result (IsTold (layouts.Frames frame.now) sort bytes.now) }
 {
     let size = frame.size();
     if bytes.is_empty() || bytes.len() < size || size > LONGEST_RECORD {

@@ -9,7 +9,7 @@ ghost use Rattle.hox_stream.specs.Gathering.{Gathers};
 ghost use Rattle.hox_stream.specs.Ports.{IsRead, ReadsOn, wants_more};
 
 use crate::cutting::{LONGEST_RECORD, Next, next_of};
-use crate::gathering::gather;
+use crate::gathering::Kept;
 use kpn_front::Source;
 use kpn_tokens::{Layout, Sort, Token, record_in};
 use std::alloc::{AllocError, Global};
@@ -138,21 +138,17 @@ impl<S: Source> Inlet<S> {
         next_of(alloc, self.layout, self.sort, bytes, self.is_over)
     }
 
-    /// Reads the tokens of the next records, at most `most`, and where each ends. Returns their number.
-    pub(crate) fn gather(&self, most: usize, tokens: &mut [Token], ends: &mut [usize]) -> usize
-        requires tokens { most ≤ length tokens.old }
-        requires ends { most ≤ length ends.old }
-        ensures few { result ≤ most }
-        ensures gathers { Gathers self.now.layout self.now.sort self.now.kept tokens.new ends.new result }
+    /// Returns the bytes that are read and not yet taken as records.
+    pub(crate) fn kept(&self) -> Kept<'_>
+        ensures layout { result.layout.now ≡ self.now.layout }
+        ensures sort { result.sort ≡ self.now.sort }
+        ensures bytes { result.bytes.now ≡ self.now.kept }
     {
-        gather(
-            &self.layout,
-            self.sort,
-            &self.held[self.next..],
-            most,
-            tokens,
-            ends,
-        )
+        Kept {
+            layout: &self.layout,
+            sort: self.sort,
+            bytes: &self.held[self.next..],
+        }
     }
 
     /// Takes the next `count` records, of `used` bytes in all, with a token each.

@@ -1,6 +1,5 @@
 //! Moves tokens from a source into its channel.
 ghost use Rattle.std.specs.Prelude.{◌≡◌, ◌≢◌, ◌<◌, true, false, [], Err, IsTrue, IfOk, IfSome, IfNone, ◌≤◌, ℕ, List, length, map};
-ghost use Rattle.std.specs.Io.KnownBytes.{IsAtEnd};
 ghost use Rattle.kpn_model.specs.Network.{channel_of};
 ghost use Rattle.kpn_model.specs.Families.{family};
 ghost use Rattle.kpn_tokens.specs.Records.{listed};
@@ -8,15 +7,15 @@ ghost use Rattle.kpn_flow.specs.Events.{Fed, Flows};
 ghost use Rattle.kpn_flow.specs.Flows.{IsSameFlow, is_among, with_ended};
 ghost use Rattle.kpn_flow.specs.Preloaded.{IsAtEnds};
 ghost use Rattle.hox_stream.specs.declared.cutting.Refusal.{Refusal as RefusalV};
-ghost use Rattle.hox_stream.specs.Cutting.{IsNext, IsRefused};
+ghost use Rattle.hox_stream.specs.Cutting.{IsRefused};
 ghost use Rattle.hox_stream.specs.Gathering.{end_of};
-ghost use Rattle.hox_stream.specs.Ports.{IsNotRead, IsRead, IsReadOnce, Pours, ReadsOn, wants_more};
-ghost use Rattle.hox_stream.specs.Streams.{Streams, IsFinish, NoneIsWaitedFor, inlet_at, is_waited_for};
-ghost use Rattle.hox_stream.specs.Turns.{AreReadIfWanted, IsTurnOf, TakesTurn};
-ghost use Rattle.hox_stream.specs.Views.{OutsView};
+ghost use Rattle.hox_stream.specs.Ports.{IsNextIn, IsNotRead, IsRead, IsReadOnce, Pours, PoursKept, ReadsOn, wants_more};
+ghost use Rattle.hox_stream.specs.Streams.{NoneIsWaitedFor, inlet_at, is_waited_for};
+ghost use Rattle.hox_stream.specs.Turns.{IsTurnOf, PoursOne, TakesTurn};
 
 use crate::cutting::{Next, Refusal};
 use crate::finish::StreamFinish;
+use crate::gathering::gather;
 use crate::inlet::{Inlet, ReadFault};
 use crate::serving::sort_of;
 use kpn_body::Body;
@@ -47,10 +46,8 @@ fn take_said<B: Body, S: Source>(
     said: Option<Token>,
     used: usize,
 ) -> bool
-    requires next { IsNext inlet.old.layout inlet.old.sort inlet.old.kept inlet.old.is_over (Next.Record said used) }
-    requires at_end { inlet.old.is_over ≡ true → IsAtEnd inlet.old.remaining }
-    ensures pours { Pours (family B.Kinds.Kinds) flow.old flow.new inlet.old inlet.new }
-    ensures unread { IsNotRead inlet.old inlet.new }
+    requires { IsNextIn inlet.old said used }
+    ensures { PoursKept (family B.Kinds.Kinds) flow.old flow.new inlet.old inlet.new }
 {
     if !feed_said(flow, inlet.channel(), said) {
         return false;
@@ -62,8 +59,7 @@ fn take_said<B: Body, S: Source>(
 /// Takes the next record and feeds its token, if there are room and a record. Returns whether it did. Without
 /// room it reads no record.
 fn take_record<B: Body, S: Source>(alloc: Global, flow: &mut Flow<B>, inlet: &mut Inlet<S>) -> bool
-    ensures pours { Pours (family B.Kinds.Kinds) flow.old flow.new inlet.old inlet.new }
-    ensures unread { IsNotRead inlet.old inlet.new }
+    ensures { PoursKept (family B.Kinds.Kinds) flow.old flow.new inlet.old inlet.new }
 {
     if !flow.has_room(inlet.channel()) {
         return false;
@@ -81,10 +77,8 @@ fn take_records<B: Body, S: Source>(
     said: Option<Token>,
     used: usize,
 )
-    requires next { IsNext inlet.old.layout inlet.old.sort inlet.old.kept inlet.old.is_over (Next.Record said used) }
-    requires at_end { inlet.old.is_over ≡ true → IsAtEnd inlet.old.remaining }
-    ensures pours { Pours (family B.Kinds.Kinds) flow.old flow.new inlet.old inlet.new }
-    ensures unread { IsNotRead inlet.old inlet.new }
+    requires { IsNextIn inlet.old said used }
+    ensures { PoursKept (family B.Kinds.Kinds) flow.old flow.new inlet.old inlet.new }
 {
     if !take_said(flow, inlet, said, used) {
         return;
@@ -94,8 +88,7 @@ fn take_records<B: Body, S: Source>(
 
 /// Takes records and feeds their tokens, while there are room and records.
 fn take_more<B: Body, S: Source>(alloc: Global, flow: &mut Flow<B>, inlet: &mut Inlet<S>)
-    ensures pours { Pours (family B.Kinds.Kinds) flow.old flow.new inlet.old inlet.new }
-    ensures unread { IsNotRead inlet.old inlet.new }
+    ensures { PoursKept (family B.Kinds.Kinds) flow.old flow.new inlet.old inlet.new }
 {
     let mut room = capacity_of(flow.net(), inlet.channel());
     'records: for _ in 0..u64::MAX {
@@ -114,8 +107,7 @@ fn take_some<B: Body, S: Source>(
     inlet: &mut Inlet<S>,
     most: usize,
 ) -> usize
-    ensures pours { Pours (family B.Kinds.Kinds) flow.old flow.new inlet.old inlet.new }
-    ensures unread { IsNotRead inlet.old inlet.new }
+    ensures { PoursKept (family B.Kinds.Kinds) flow.old flow.new inlet.old inlet.new }
 {
     if !flow.has_room(inlet.channel()) {
         return 0;
@@ -141,8 +133,7 @@ const BATCH: usize = 64;
 
 /// Takes the next records that have a token each, at most `most`, while there is room. Returns how many it took.
 fn take_batch<B: Body, S: Source>(flow: &mut Flow<B>, inlet: &mut Inlet<S>, most: usize) -> usize
-    ensures pours { Pours (family B.Kinds.Kinds) flow.old flow.new inlet.old inlet.new }
-    ensures unread { IsNotRead inlet.old inlet.new }
+    ensures { PoursKept (family B.Kinds.Kinds) flow.old flow.new inlet.old inlet.new }
 {
     let channel = inlet.channel();
     if !flow.is_input(channel) {
@@ -154,7 +145,7 @@ fn take_batch<B: Body, S: Source>(flow: &mut Flow<B>, inlet: &mut Inlet<S>, most
     flow.assure_one_run();
     let mut tokens = [Token::Word(0); BATCH];
     let mut ends = [0; BATCH];
-    let count = inlet.gather(most.min(BATCH), &mut tokens, &mut ends);
+    let count = gather(&inlet.kept(), most.min(BATCH), &mut tokens, &mut ends);
     let fed = flow.feed_all(channel, &tokens[..count]);
     inlet.pass_all(end_of(&ends, fed), fed);
     fed
@@ -241,10 +232,8 @@ fn pour_at<B: Body, S: Source>(
 ) -> Option<StreamFinish>
     requires within { k < length inlets.old }
     requires input { is_among flow.old.unended (inlet_at inlets.old k).channel ≡ true }
-    ensures streams { (outs : OutsView) → Streams (family B.Kinds.Kinds) flow.old flow.new inlets.old inlets.new outs outs }
-    ensures finish { IfSome result (λ f. (outs : OutsView) → IsFinish (family B.Kinds.Kinds) flow.new inlets.new outs f) }
+    ensures poured { PoursOne (family B.Kinds.Kinds) flow.old flow.new inlets.old inlets.new result }
     ensures read { IfNone result (wants_more (inlet_at inlets.old k) ≡ true → IsReadOnce (inlet_at inlets.old k) (inlet_at inlets.new k)) }
-    ensures only_if_wanted { AreReadIfWanted inlets.old inlets.new }
     ensures others { (j : ℕ) → (j ≡ k → ⊥) → inlet_at inlets.new j ≡ inlet_at inlets.old j }
 {
     match pour(alloc, flow, &mut inlets[k]) {
@@ -304,10 +293,8 @@ pub(crate) fn pour_next<B: Body, S: Source>(
     inlets: &mut [Inlet<S>],
     turn: &mut usize,
 ) -> Option<StreamFinish>
-    ensures streams { (outs : OutsView) → Streams (family B.Kinds.Kinds) flow.old flow.new inlets.old inlets.new outs outs }
-    ensures finish { IfSome result (λ f. (outs : OutsView) → IsFinish (family B.Kinds.Kinds) flow.new inlets.new outs f) }
+    ensures poured { PoursOne (family B.Kinds.Kinds) flow.old flow.new inlets.old inlets.new result }
     ensures takes_turn { IfNone result (TakesTurn flow.old inlets.old inlets.new turn.old turn.new) }
-    ensures only_if_wanted { AreReadIfWanted inlets.old inlets.new }
 {
     let Some(k) = next_starved(flow, inlets, *turn) else {
         return Some(StreamFinish::Idle);

@@ -7,7 +7,7 @@ ghost use Rattle.kpn_model.specs.Families.{family};
 ghost use Rattle.kpn_flow.specs.Ends.{is_no_channel};
 ghost use Rattle.kpn_net.specs.Sketched.{net_of};
 ghost use Rattle.hox_stream.specs.Exits.{exit_named, exit_ports, exits, with_exits};
-ghost use Rattle.hox_stream.specs.Starts.{AreNamed, IsFresh, IsNameFault, IsNameOf, IsNoNetwork, IsStart, IsStarted, IsStartFault, IsStreamFault, cards_in, is_busy, outer_process};
+ghost use Rattle.hox_stream.specs.Starts.{AreNamed, IsFresh, IsNameFault, IsNameOf, IsNoNetwork, IsStart, IsStarted, IsStartFault, IsStreamFault, MayFlow, cards_in, is_busy, outer_process};
 
 use crate::exits::Exits;
 use crate::opening::net_with_exits;
@@ -24,6 +24,13 @@ use std::marker::Model;
 pub(crate) enum Way {
     In,
     Out,
+}
+
+/// Names of channels at which tokens go in, or out.
+#[derive(Clone, Copy)]
+struct NamedEnds<'a> {
+    way: Way,
+    names: &'a [Text],
 }
 
 /// Why the channel of a name can't be fed or drained. Names are numbered from 0.
@@ -121,11 +128,19 @@ fn open_net<F: Computes>(
     let Ok(bodies) = bodies_of(alloc, &net) else {
         return Err(StreamFault::Memory);
     };
-    let inputs = match channels_at(alloc, &net, bodies.as_slice(), Way::In, fed) {
+    let named_in = NamedEnds {
+        way: Way::In,
+        names: fed,
+    };
+    let named_out = NamedEnds {
+        way: Way::Out,
+        names: drained,
+    };
+    let inputs = match channels_at(alloc, &net, bodies.as_slice(), &named_in) {
         Ok(inputs) => inputs,
         Err(fault) => return Err(StreamFault::Input(fault)),
     };
-    let outputs = match channels_at(alloc, &net, bodies.as_slice(), Way::Out, drained) {
+    let outputs = match channels_at(alloc, &net, bodies.as_slice(), &named_out) {
         Ok(outputs) => outputs,
         Err(fault) => return Err(StreamFault::Output(fault)),
     };
@@ -139,11 +154,7 @@ fn start<F: Computes>(
     inputs: Vec<usize>,
     outputs: Vec<usize>,
 ) -> Result<OpenStream<F>, StreamFault>
-    requires cards { map ⟦<CardBody<F> as Body>⟧.card bodies.items ≡ cards_in net }
-    requires inputs { list_any (is_no_channel net) inputs.items ≡ false }
-    requires outputs { list_any (is_no_channel net) outputs.items ≡ false }
-    requires fed { list_any (is_busy (family F.Kinds) net Way.In) inputs.items ≡ false }
-    requires drained { list_any (is_busy (family F.Kinds) net Way.Out) outputs.items ≡ false }
+    requires { MayFlow (family F.Kinds) net (map ⟦<CardBody<F> as Body>⟧.card bodies.items) inputs.items outputs.items }
     ensures fresh { IfOk result (IsFresh (family F.Kinds) net) }
     ensures inputs { IfOk result (λ s. s.inputs ≡ inputs.items) }
     ensures outputs { IfOk result (λ s. s.outputs ≡ outputs.items) }
@@ -166,11 +177,7 @@ fn flow_between<F: Computes>(
     inputs: &[usize],
     outputs: &[usize],
 ) -> Result<Flow<CardBody<F>>, StreamFault>
-    requires cards { map ⟦<CardBody<F> as Body>⟧.card bodies.items ≡ cards_in net }
-    requires inputs { list_any (is_no_channel net) inputs.now ≡ false }
-    requires outputs { list_any (is_no_channel net) outputs.now ≡ false }
-    requires fed { list_any (is_busy (family F.Kinds) net Way.In) inputs.now ≡ false }
-    requires drained { list_any (is_busy (family F.Kinds) net Way.Out) outputs.now ≡ false }
+    requires { MayFlow (family F.Kinds) net (map ⟦<CardBody<F> as Body>⟧.card bodies.items) inputs.now outputs.now }
     ensures fresh { IfOk result (IsFresh (family F.Kinds) net) }
     ensures start { IfOk result (λ flow. IsStart (family F.Kinds) flow inputs.now outputs.now) }
     ensures fault { IfErr result (IsStartFault inputs.now outputs.now) }
@@ -197,18 +204,17 @@ fn channels_at<B: Body>(
     alloc: Global,
     net: &Net<B::Kinds>,
     bodies: &[B],
-    way: Way,
-    names: &[Text],
+    ends: &NamedEnds<'_>,
 ) -> Result<Vec<usize>, NameFault>
     requires { map B.card bodies.now ≡ cards_in net.now }
-    ensures named { IfOk result (λ v. AreNamed net.now names.now v.items) }
+    ensures named { IfOk result (λ v. AreNamed net.now ends.now.names.now v.items) }
     ensures within { IfOk result (λ v. list_any (is_no_channel net.now) v.items ≡ false) }
-    ensures idle { IfOk result (λ v. list_any (is_busy (family B.Kinds.Kinds) net.now way) v.items ≡ false) }
-    ensures fault { IfErr result (IsNameFault (family B.Kinds.Kinds) net.now way names.now) }
+    ensures idle { IfOk result (λ v. list_any (is_busy (family B.Kinds.Kinds) net.now ends.now.way) v.items ≡ false) }
+    ensures fault { IfErr result (IsNameFault (family B.Kinds.Kinds) net.now ends.now.way ends.now.names.now) }
 {
     let mut channels = Vec::new(alloc);
-    for k in 0..names.len() {
-        let channel = channel_at(alloc, net, bodies, way, names, k)?;
+    for k in 0..ends.names.len() {
+        let channel = channel_at(alloc, net, bodies, ends, k)?;
         if channels.push(channel).is_err() {
             return Err(NameFault::Memory);
         }
@@ -220,21 +226,20 @@ fn channel_at<B: Body>(
     alloc: Global,
     net: &Net<B::Kinds>,
     bodies: &[B],
-    way: Way,
-    names: &[Text],
+    ends: &NamedEnds<'_>,
     k: usize,
 ) -> Result<usize, NameFault>
     requires cards { map B.card bodies.now ≡ cards_in net.now }
-    requires within { k < length names.now }
-    ensures named { IfOk result (λ c. number_of_channel net.now (get_or names.now k []) ≡ Some c) }
+    requires within { k < length ends.now.names.now }
+    ensures named { IfOk result (λ c. number_of_channel net.now (get_or ends.now.names.now k []) ≡ Some c) }
     ensures within { IfOk result (λ c. is_no_channel net.now c ≡ false) }
-    ensures idle { IfOk result (λ c. is_busy (family B.Kinds.Kinds) net.now way c ≡ false) }
-    ensures fault { IfErr result (IsNameFault (family B.Kinds.Kinds) net.now way names.now) }
+    ensures idle { IfOk result (λ c. is_busy (family B.Kinds.Kinds) net.now ends.now.way c ≡ false) }
+    ensures fault { IfErr result (IsNameFault (family B.Kinds.Kinds) net.now ends.now.way ends.now.names.now) }
 {
-    let Some(channel) = net.find_channel(names[k].as_str()) else {
+    let Some(channel) = net.find_channel(ends.names[k].as_str()) else {
         return Err(NameFault::NoChannel(k));
     };
-    let process = outer_process(net, way, channel);
+    let process = outer_process(net, ends.way, channel);
     if stops_at_once(bodies, process) {
         return Ok(channel);
     }

@@ -1,9 +1,9 @@
 //! Runs a flow between sources and sinks.
-ghost use Rattle.std.specs.Prelude.{IfNone, IfSome, List};
+ghost use Rattle.std.specs.Prelude.{IfNone};
 ghost use Rattle.kpn_model.specs.Families.{family};
 ghost use Rattle.kpn_flow.specs.Pieces.{IsOneRunInPieces};
-ghost use Rattle.hox_stream.specs.Streams.{AreWritten, IsFinish, Streams, StreamsOut};
-ghost use Rattle.hox_stream.specs.Turns.{AreReadUnheld, PassesTurn, TakesTurn};
+ghost use Rattle.hox_stream.specs.Streams.{AreWritten, StreamsOut, StreamsTo};
+ghost use Rattle.hox_stream.specs.Turns.{GoesOn, PassesTurn, TakesTurn};
 ghost use Rattle.hox_stream.specs.Views.{InletView, OutsView};
 
 use crate::finish::StreamFinish;
@@ -43,8 +43,7 @@ fn stream<B: Body, I: Source, O: Sink, L: Onlooker>(
     outs: &mut Outs<O>,
     onlooker: &L,
 ) -> StreamFinish
-    ensures streams { Streams (family B.Kinds.Kinds) flow.old flow.new inlets.old inlets.new outs.old outs.new }
-    ensures finish { IsFinish (family B.Kinds.Kinds) flow.new inlets.new outs.new result }
+    ensures ended { StreamsTo (family B.Kinds.Kinds) flow.old flow.new inlets.old inlets.new outs.old outs.new result }
     ensures written { AreWritten outs.new }
     ensures one_run { IsOneRunInPieces (family B.Kinds.Kinds) flow.new }
 {
@@ -64,8 +63,7 @@ fn turn_on<B: Body, I: Source, O: Sink, L: Onlooker>(
     outs: &mut Outs<O>,
     onlooker: &L,
 ) -> StreamFinish
-    ensures streams { Streams (family B.Kinds.Kinds) flow.old flow.new inlets.old inlets.new outs.old outs.new }
-    ensures finish { IsFinish (family B.Kinds.Kinds) flow.new inlets.new outs.new result }
+    ensures { StreamsTo (family B.Kinds.Kinds) flow.old flow.new inlets.old inlets.new outs.old outs.new result }
 {
     let mut next = 0;
     'turns: for _ in 0..u64::MAX {
@@ -86,10 +84,8 @@ fn turn<B: Body, I: Source, O: Sink>(
     outs: &mut Outs<O>,
     next: &mut usize,
 ) -> Option<StreamFinish>
-    ensures streams { Streams (family B.Kinds.Kinds) flow.old flow.new inlets.old inlets.new outs.old outs.new }
-    ensures finish { IfSome result (IsFinish (family B.Kinds.Kinds) flow.new inlets.new outs.new) }
+    ensures goes_on { GoesOn (family B.Kinds.Kinds) flow.old flow.new inlets.old inlets.new outs.old outs.new result }
     ensures turn { IfNone result (PassesTurn inlets.old inlets.new next.old next.new) }
-    ensures unheld { AreReadUnheld inlets.old inlets.new outs.new }
 {
     let pause = flow.advance(STRETCH);
     match outs.tell_all(flow) {
@@ -113,10 +109,8 @@ fn pour<B: Body, I: Source, O: Sink>(
     outs: &mut Outs<O>,
     next: &mut usize,
 ) -> Option<StreamFinish>
-    ensures streams { Streams (family B.Kinds.Kinds) flow.old flow.new inlets.old inlets.new outs.old outs.new }
-    ensures finish { IfSome result (IsFinish (family B.Kinds.Kinds) flow.new inlets.new outs.new) }
+    ensures goes_on { GoesOn (family B.Kinds.Kinds) flow.old flow.new inlets.old inlets.new outs.old outs.new result }
     ensures turn { IfNone result (TakesTurn flow.old inlets.old inlets.new next.old next.new) }
-    ensures unheld { AreReadUnheld inlets.old inlets.new outs.new }
 {
     if wants_more(inlets) {
         if let Err(finish) = outs.flush_all() {

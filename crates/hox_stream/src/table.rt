@@ -2,7 +2,7 @@
 ghost use Rattle.std.specs.Prelude.{◌≡◌, ◌<◌, ◌≤◌, [], true, false, Err, IfErr, IfOk, OnOk, length, set};
 ghost use Rattle.std.specs.Io.KnownBytes.{append_known};
 ghost use Rattle.hox_stream.specs.Lanes.{TakesIn};
-ghost use Rattle.hox_stream.specs.Tables.{EndsTable, FlushesTable, IsTableFault, RowsGo, WritesTable, lane_at, only_at};
+ghost use Rattle.hox_stream.specs.Tables.{EndsTable, FlushesTable, IsTableFault, WritesRows, WritesTable, lane_at, only_at};
 
 use crate::lane::Lane;
 use crate::outlet::write_out;
@@ -202,9 +202,7 @@ impl<S: Sink> TableOutlet<S> {
     /// Appends `count` rows, with gaps where a column has no token left. Writes what waits if it has more
     /// than 4,096 bytes.
     fn write_rows(&mut self, count: usize) -> Result<(), TableFault>
-        ensures rows { RowsGo self.old self.new count }
-        ensures failed { IfErr result (λ _. self.new.has_failed ≡ true) }
-        ensures fault { IfErr result (IsTableFault self.new) }
+        ensures { WritesRows self.old self.new count result }
     {
         for _ in 0..count {
             self.write_row()?;
@@ -213,9 +211,7 @@ impl<S: Sink> TableOutlet<S> {
     }
 
     fn write_row(&mut self) -> Result<(), TableFault>
-        ensures rows { RowsGo self.old self.new 1 }
-        ensures failed { IfErr result (λ _. self.new.has_failed ≡ true) }
-        ensures fault { IfErr result (IsTableFault self.new) }
+        ensures { WritesRows self.old self.new 1 result }
     {
         if self.has_failed {
             return Err(TableFault::Failed);

@@ -1,10 +1,10 @@
 //! Moves tokens from the channels into tables.
-ghost use Rattle.std.specs.Prelude.{◌≡◌, ◌<◌, ℕ, false, Ok, IfErr, List, [], length};
+ghost use Rattle.std.specs.Prelude.{◌≡◌, ◌<◌, ℕ, false, IfErr, List, [], length};
 ghost use Rattle.kpn_model.specs.Network.{Family};
 ghost use Rattle.kpn_model.specs.Families.{family};
-ghost use Rattle.kpn_flow.specs.Flows.{FlowView, IsSameFlow};
-ghost use Rattle.hox_stream.specs.Streams.{AllEnd, AllTablesStay, IsFinish, IsOutAt, Streams, table_at};
-ghost use Rattle.hox_stream.specs.Tables.{IsTableFault, TellsLane};
+ghost use Rattle.kpn_flow.specs.Flows.{FlowView};
+ghost use Rattle.hox_stream.specs.Streams.{AllEnd, AllTablesStay, IsFinish, IsOutAt, Streams, TellsTables, table_at};
+ghost use Rattle.hox_stream.specs.Tables.{IsTableFault, TellsColumn};
 ghost use Rattle.hox_stream.specs.Views.{InletView, OutletView, TableView, outs};
 
 use crate::finish::StreamFinish;
@@ -21,10 +21,7 @@ fn tell_lane<B: Body, S: Sink>(
     place: usize,
 ) -> Result<bool, TableFault>
     requires { place < length table.old.lanes }
-    ensures tells { TellsLane (family B.Kinds.Kinds) flow.old flow.new table.old table.new place }
-    ensures same { IsSameFlow flow.old flow.new }
-    ensures none { result ≡ Ok false → flow.new.state ≡ flow.old.state }
-    ensures fault { IfErr result (IsTableFault table.new) }
+    ensures { TellsColumn (family B.Kinds.Kinds) flow.old flow.new table.old table.new place result }
 {
     let channel = table.channel(place);
     if !flow.is_output(channel) {
@@ -50,10 +47,7 @@ fn tell_lane_at<B: Body, S: Sink>(
     place: usize,
 ) -> Result<bool, StreamFinish>
     requires { k < length tables.old }
-    ensures streams { (ins : List InletView) (sinks : List OutletView) → Streams (family B.Kinds.Kinds) flow.old flow.new ins ins (outs sinks tables.old) (outs sinks tables.new) }
-    ensures same { IsSameFlow flow.old flow.new }
-    ensures none { result ≡ Ok false → flow.new.state ≡ flow.old.state }
-    ensures finish { IfErr result (λ f. (ins : List InletView) (sinks : List OutletView) → length sinks ≡ first → IsFinish (family B.Kinds.Kinds) flow.new ins (outs sinks tables.new) f) }
+    ensures { TellsTables (family B.Kinds.Kinds) flow.old flow.new tables.old tables.new first result }
 {
     if place >= tables[k].width() {
         return Ok(false);
@@ -86,10 +80,7 @@ fn tell_table<B: Body, S: Sink>(
     k: usize,
 ) -> Result<bool, StreamFinish>
     requires { k < length tables.old }
-    ensures streams { (ins : List InletView) (sinks : List OutletView) → Streams (family B.Kinds.Kinds) flow.old flow.new ins ins (outs sinks tables.old) (outs sinks tables.new) }
-    ensures same { IsSameFlow flow.old flow.new }
-    ensures none { result ≡ Ok false → flow.new.state ≡ flow.old.state }
-    ensures finish { IfErr result (λ f. (ins : List InletView) (sinks : List OutletView) → length sinks ≡ first → IsFinish (family B.Kinds.Kinds) flow.new ins (outs sinks tables.new) f) }
+    ensures { TellsTables (family B.Kinds.Kinds) flow.old flow.new tables.old tables.new first result }
 {
     let mut has_moved = false;
     for place in 0..tables[k].width() {
@@ -106,10 +97,7 @@ pub(crate) fn tell_tables<B: Body, S: Sink>(
     tables: &mut [TableOutlet<S>],
     first: usize,
 ) -> Result<bool, StreamFinish>
-    ensures streams { (ins : List InletView) (sinks : List OutletView) → Streams (family B.Kinds.Kinds) flow.old flow.new ins ins (outs sinks tables.old) (outs sinks tables.new) }
-    ensures same { IsSameFlow flow.old flow.new }
-    ensures none { result ≡ Ok false → flow.new.state ≡ flow.old.state }
-    ensures finish { IfErr result (λ f. (ins : List InletView) (sinks : List OutletView) → length sinks ≡ first → IsFinish (family B.Kinds.Kinds) flow.new ins (outs sinks tables.new) f) }
+    ensures { TellsTables (family B.Kinds.Kinds) flow.old flow.new tables.old tables.new first result }
 {
     let mut has_moved = false;
     for k in 0..tables.len() {

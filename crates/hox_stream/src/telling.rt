@@ -1,10 +1,10 @@
 //! Moves tokens from the channels into their sinks.
-ghost use Rattle.std.specs.Prelude.{◌≡◌, ◌<◌, ℕ, true, false, Ok, IfErr, List, [], length};
+ghost use Rattle.std.specs.Prelude.{◌≡◌, ◌<◌, ℕ, true, false, IfErr, List, [], length};
 ghost use Rattle.kpn_model.specs.Network.{Family};
 ghost use Rattle.kpn_model.specs.Families.{family};
-ghost use Rattle.kpn_flow.specs.Flows.{FlowView, IsSameFlow};
-ghost use Rattle.hox_stream.specs.Ports.{IsWriteFault, Tells};
-ghost use Rattle.hox_stream.specs.Streams.{AllEnd, AllFaultsStay, AllStay, AreWritten, IsFinish, Streams, outlet_at};
+ghost use Rattle.kpn_flow.specs.Flows.{FlowView};
+ghost use Rattle.hox_stream.specs.Ports.{TellsSink};
+ghost use Rattle.hox_stream.specs.Streams.{AllEnd, AllFaultsStay, AllStay, AreWritten, IsFinish, Streams, TellsOuts, TellsSinks, outlet_at};
 ghost use Rattle.hox_stream.specs.Views.{InletView, TableView, outs};
 
 use crate::finish::StreamFinish;
@@ -22,10 +22,7 @@ pub(crate) const BATCH: usize = 64;
 
 /// Moves the first tokens of a channel to its sink. Returns whether there were any.
 fn tell<B: Body, S: Sink>(flow: &mut Flow<B>, outlet: &mut Outlet<S>) -> Result<bool, WriteFault>
-    ensures tells { Tells (family B.Kinds.Kinds) flow.old flow.new outlet.old outlet.new }
-    ensures same { IsSameFlow flow.old flow.new }
-    ensures none { result ≡ Ok false → flow.new.state ≡ flow.old.state }
-    ensures fault { IfErr result (IsWriteFault outlet.new) }
+    ensures { TellsSink (family B.Kinds.Kinds) flow.old flow.new outlet.old outlet.new result }
 {
     let channel = outlet.channel();
     if !flow.is_output(channel) {
@@ -48,10 +45,7 @@ fn tell_at<B: Body, S: Sink>(
     k: usize,
 ) -> Result<bool, StreamFinish>
     requires { k < length outlets.old }
-    ensures streams { (ins : List InletView) (tables : List TableView) → Streams (family B.Kinds.Kinds) flow.old flow.new ins ins (outs outlets.old tables) (outs outlets.new tables) }
-    ensures same { IsSameFlow flow.old flow.new }
-    ensures none { result ≡ Ok false → flow.new.state ≡ flow.old.state }
-    ensures finish { IfErr result (λ f. (ins : List InletView) (tables : List TableView) → IsFinish (family B.Kinds.Kinds) flow.new ins (outs outlets.new tables) f) }
+    ensures { TellsSinks (family B.Kinds.Kinds) flow.old flow.new outlets.old outlets.new result }
 {
     match tell(flow, &mut outlets[k]) {
         Ok(has_moved) => Ok(has_moved),
@@ -65,10 +59,7 @@ fn tell_sinks<B: Body, S: Sink>(
     flow: &mut Flow<B>,
     outlets: &mut [Outlet<S>],
 ) -> Result<bool, StreamFinish>
-    ensures streams { (ins : List InletView) (tables : List TableView) → Streams (family B.Kinds.Kinds) flow.old flow.new ins ins (outs outlets.old tables) (outs outlets.new tables) }
-    ensures same { IsSameFlow flow.old flow.new }
-    ensures none { result ≡ Ok false → flow.new.state ≡ flow.old.state }
-    ensures finish { IfErr result (λ f. (ins : List InletView) (tables : List TableView) → IsFinish (family B.Kinds.Kinds) flow.new ins (outs outlets.new tables) f) }
+    ensures { TellsSinks (family B.Kinds.Kinds) flow.old flow.new outlets.old outlets.new result }
 {
     let mut has_moved = false;
     for k in 0..outlets.len() {
@@ -117,10 +108,7 @@ impl<S: Sink> Model for Outs<S> {
 impl<S: Sink> Outs<S> {
     /// Moves the first tokens of each channel to its sink. Returns whether it moved any, or why the stream ends.
     pub(crate) fn tell_all<B: Body>(&mut self, flow: &mut Flow<B>) -> Result<bool, StreamFinish>
-        ensures streams { (ins : List InletView) → Streams (family B.Kinds.Kinds) flow.old flow.new ins ins self.old self.new }
-        ensures same { IsSameFlow flow.old flow.new }
-        ensures none { result ≡ Ok false → flow.new.state ≡ flow.old.state }
-        ensures finish { IfErr result (λ f. (ins : List InletView) → IsFinish (family B.Kinds.Kinds) flow.new ins self.new f) }
+        ensures { TellsOuts (family B.Kinds.Kinds) flow.old flow.new self.old self.new result }
     {
         let first = self.sinks.len();
         let moved = match tell_sinks(flow, self.sinks.as_mut_slice()) {

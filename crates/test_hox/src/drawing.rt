@@ -4,7 +4,7 @@ ghost use Rattle.std.specs.Prelude.{◌≤◌, IfSome};
 use crate::checks::same;
 use crate::samples::{plain, with_tokens};
 use hox_args::{Choice, Direction, DrawChoice, WordsFault, read_words};
-use hox_draw::draw;
+use hox_draw::{WantedPicture, draw};
 use hox_network::{AllKinds, Fault, Request};
 use std::alloc::{AllocError, Global};
 use std::process::Abort;
@@ -50,8 +50,12 @@ fn told<R: AllocGlobal + Wait + Clock + Threads + Abort + Sync>(
     requires { (1 ≤ request.now.workers) × (request.now.workers ≤ 16) }
 {
     let mut source = text.as_bytes();
-    let direction = Direction::Right;
-    let told = draw::<AllKinds, _, _>(rt, rt.alloc(), request, direction, is_run, &mut source);
+    let wanted = WantedPicture {
+        request,
+        direction: Direction::Right,
+        is_run,
+    };
+    let told = draw::<AllKinds, _, _>(rt, rt.alloc(), &wanted, &mut source);
     match told {
         Ok(picture) => picture,
         Err(fault) => refusal(rt, &fault),

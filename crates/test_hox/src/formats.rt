@@ -1,9 +1,9 @@
 //! Names of file formats, and what files contain before the tokens.
 use crate::checks::same;
 use hox_format::{
-    BeginFault, Csv, Format, FormatFault, Head, HeadFault, Raw, Records, Shared, Wav, Which,
-    append_head, append_tail, begin, decimals_of, format_of, layout_of, records_in, records_of,
-    shared_by,
+    BeginFault, Csv, FileHead, FirstBytes, Format, FormatFault, Head, HeadFault, Raw, Records,
+    Shared, Wav, Which, append_head, append_tail, begin, decimals_of, format_of, layout_of,
+    records_in, records_of, shared_by,
 };
 use kpn_front::Source;
 use kpn_tokens::{
@@ -228,7 +228,8 @@ fn found<R: AllocGlobal + Abort>(
     let format = format_of(text).expect(rt, "a format");
     let (place, count) = channel;
     let (bytes, is_last) = file;
-    records_in(rt.alloc(), &format, place, count, bytes, is_last).expect(rt, "no memory")
+    let first = FirstBytes { bytes, is_last };
+    records_in(rt.alloc(), &format, place, count, &first).expect(rt, "no memory")
 }
 
 fn stereo(before: u16, after: u16) -> Records {
@@ -397,10 +398,12 @@ fn bodies_of_samples(rt: HostRuntime) {
 fn around<R: AllocGlobal + Abort>(rt: &R, text: &str, frames: Option<u32>) -> Vec<u8> {
     let format = format_of(text).expect(rt, "a format");
     let mut out = Vec::new(rt.alloc());
-    append_head(rt.alloc(), &mut out, &format, &[b"a", b"b;c"], 8000, frames).expect(
-        rt,
-        "no memory",
-    );
+    let head = FileHead {
+        names: &[b"a", b"b;c"],
+        rate: 8000,
+        frames,
+    };
+    append_head(rt.alloc(), &mut out, &format, &head).expect(rt, "no memory");
     append_tail(&mut out, &format, 3, frames).expect(rt, "no memory");
     out
 }

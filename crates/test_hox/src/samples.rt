@@ -7,7 +7,9 @@ use hox_network::{
     AllKinds, Fault, FileFault, KINDS, PresetFault, Request, StreamAs, TokenFile, channel_names,
     load_by_ports, prepare, read_whole, sketch_by_ports,
 };
-use hox_run::{Notes, ProgressReceiver, Silent, SoFar, Told, WantedStreams, execute, serve};
+use hox_run::{
+    Notes, ProgressReceiver, Silent, SoFar, Told, WantedRun, WantedStreams, execute, serve,
+};
 use kpn_message::messages_of_sketch;
 use kpn_net::{Listed, Net, Sort, Text, Token, TokenSketch};
 use kpn_tokens::{Decimals, Layout, RecordFault};
@@ -345,11 +347,16 @@ fn a_network_is_run_by_two(rt: HostRuntime) {
     };
     let names = channel_names(rt.alloc(), &net).expect(&rt, "no memory");
     are_x_and_y(&rt, "channels", names.as_slice());
-    let wanted = WantedStreams {
+    let streams = WantedStreams {
         show: &[],
         outputs: &[],
     };
-    let told = execute(&rt, rt.alloc(), net, 2, &wanted, &Silent);
+    let wanted = WantedRun {
+        workers: 2,
+        streams,
+        progress: &Silent,
+    };
+    let told = execute(&rt, rt.alloc(), net, &wanted);
     let Ok(told) = told else {
         panic!(rt; "no memory");
     };

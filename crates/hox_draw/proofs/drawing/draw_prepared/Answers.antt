@@ -2,8 +2,8 @@
 use Rattle.std.proofs.Common.{rules}
 use Rattle.hox_draw.proofs.drawing.draw_prepared.Goals as goal
 
-pub returns-then-not-is_run-clause-drawn : goal.returns-then-not-is_run-clause-drawn
-returns-then-not-is_run-clause-drawn g c = search rules
+pub returns-then-not-wanted-clause-drawn : goal.returns-then-not-wanted-clause-drawn
+returns-then-not-wanted-clause-drawn g c = search rules
 
 pub returns-in-Ok-clause-drawn : goal.returns-in-Ok-clause-drawn
 returns-in-Ok-clause-drawn g c = search rules

@@ -6,4 +6,4 @@ use Rattle.hox_draw.proofs.running.draw_by_workers.Goals as goal
 pub unreachable-requires-in-Err-Open : goal.unreachable-requires-in-Err-Open
 unreachable-requires-in-Err-Open g c =
     let misfit = c.run.ensures.open _ _ _ (c.in-Err-Open.is ∙ ap (λ x. Err x) c.in-Err-Open.field-0-is) in
-    not_refused _ _ _ c.requires.cards misfit.2 misfit.3
+    not_refused _ _ _ c.in-Ok.ensures misfit.2 misfit.3

@@ -6,8 +6,8 @@ use Rattle.hox_execute.proofs.writing.write_told.Goals as goal
 
 pub returns-then-is_quiet : goal.returns-then-is_quiet
 returns-then-is_quiet g c =
-    let outputs = c.args.outputs.now in
-    let texts = c.args.texts.now in
+    let outputs = c.args.streams.now.outputs.now in
+    let texts = c.args.streams.now.texts.now in
     let report = string_bytes c.args.report.now in
     let steady = g.S.FileSystem.is_steady c.args.files.now in
     let before = g.S.FileSystem.effects c.args.files.now in
@@ -17,8 +17,8 @@ returns-then-is_quiet g c =
 
 pub returns : goal.returns
 returns g c =
-    let outputs = c.args.outputs.now in
-    let texts = c.args.texts.now in
+    let outputs = c.args.streams.now.outputs.now in
+    let texts = c.args.streams.now.texts.now in
     let report = string_bytes c.args.report.now in
     let steady = g.S.FileSystem.is_steady c.args.files.now in
     let before = g.S.FileSystem.effects c.args.files.now in

@@ -3,5 +3,5 @@ use Rattle.std.proofs.Common.{arith}
 use Rattle.std.proofs.lemmas.Grind.{common_steps}
 use Rattle.hox_stream.proofs.cutting.told_by_frame.Goals as goal
 
-pub returns-clause-next : goal.returns-clause-next
-returns-clause-next c = grind (arith, common_steps)
+pub returns : goal.returns
+returns c = grind (arith, common_steps)

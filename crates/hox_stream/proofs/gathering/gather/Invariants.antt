@@ -4,6 +4,6 @@ use Rattle.hox_stream.proofs.gathering.gather.Given as goal
 
 abbrev pub invariant-loop-count : goal.invariant-loop-count
 invariant-loop-count l = record {
-  gathers : Gathers l.layout l.sort l.bytes l.tokens l.ends l.count;
+  gathers : Gathers l.kept.layout.now l.kept.sort l.kept.bytes.now l.tokens l.ends l.count;
   at : l.end ≡ end_of l.ends l.count;
 }

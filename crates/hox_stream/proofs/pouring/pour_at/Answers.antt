@@ -9,61 +9,52 @@ use Rattle.hox_stream.proofs.Streamed.{failed_there, other_sort_there, refused_t
 use Rattle.hox_stream.proofs.Reading.{only_there}
 use Rattle.hox_stream.proofs.pouring.pour_at.Goals as goal
 
-pub returns-in-Ok-clause-streams : goal.returns-in-Ok-clause-streams
-returns-in-Ok-clause-streams g c = λ outs.
-    streams_poured (family_of g.B.Kinds.Kinds.start g.B.Kinds.Kinds.answer_of) _ _ c.args.inlets.now outs c.args.k _ c.pour.new.inlet c.requires.within (get_or_default c.args.inlets.now c.args.k c.index-inlets-k.result no_inlet c.requires.within) c.pour.ensures.pours
+pub returns-in-Ok-clause-poured : goal.returns-in-Ok-clause-poured
+returns-in-Ok-clause-poured g c = record {
+  streams = λ outs.
+      streams_poured (family_of g.B.Kinds.Kinds.start g.B.Kinds.Kinds.answer_of) _ _ c.args.inlets.now outs c.args.k _ c.pour.new.inlet c.requires.within (get_or_default c.args.inlets.now c.args.k c.index-inlets-k.result no_inlet c.requires.within) c.pour.ensures.pours;
+  finish = tt;
+  only_if_wanted = only_there c.args.inlets.now c.args.k (get_or c.args.inlets.now c.args.k c.index-inlets-k.result) c.pour.new.inlet c.requires.within (get_or_default c.args.inlets.now c.args.k c.index-inlets-k.result no_inlet c.requires.within) c.pour.ensures.only_if_wanted;
+}
 
-pub returns-in-Err-Refused-clause-streams : goal.returns-in-Err-Refused-clause-streams
-returns-in-Err-Refused-clause-streams g c = λ outs.
-    streams_poured (family_of g.B.Kinds.Kinds.start g.B.Kinds.Kinds.answer_of) _ _ c.args.inlets.now outs c.args.k _ c.pour.new.inlet c.requires.within (get_or_default c.args.inlets.now c.args.k c.index-inlets-k.result no_inlet c.requires.within) c.pour.ensures.pours
+pub returns-in-Err-Refused-clause-poured : goal.returns-in-Err-Refused-clause-poured
+returns-in-Err-Refused-clause-poured g c = record {
+  streams = λ outs.
+      streams_poured (family_of g.B.Kinds.Kinds.start g.B.Kinds.Kinds.answer_of) _ _ c.args.inlets.now outs c.args.k _ c.pour.new.inlet c.requires.within (get_or_default c.args.inlets.now c.args.k c.index-inlets-k.result no_inlet c.requires.within) c.pour.ensures.pours;
+  finish = λ outs.
+      refused_there c.args.inlets.now c.args.k c.pour.new.inlet c.in-Err-Refused.refusal c.requires.within (c.in-Err-Refused.ensures.refused c.in-Err-Refused.refusal (cc));
+  only_if_wanted = only_there c.args.inlets.now c.args.k (get_or c.args.inlets.now c.args.k c.index-inlets-k.result) c.pour.new.inlet c.requires.within (get_or_default c.args.inlets.now c.args.k c.index-inlets-k.result no_inlet c.requires.within) c.pour.ensures.only_if_wanted;
+}
 
-pub returns-in-Err-Failed-clause-streams : goal.returns-in-Err-Failed-clause-streams
-returns-in-Err-Failed-clause-streams g c = λ outs.
-    streams_poured (family_of g.B.Kinds.Kinds.start g.B.Kinds.Kinds.answer_of) _ _ c.args.inlets.now outs c.args.k _ c.pour.new.inlet c.requires.within (get_or_default c.args.inlets.now c.args.k c.index-inlets-k.result no_inlet c.requires.within) c.pour.ensures.pours
+pub returns-in-Err-Failed-clause-poured : goal.returns-in-Err-Failed-clause-poured
+returns-in-Err-Failed-clause-poured g c = record {
+  streams = λ outs.
+      streams_poured (family_of g.B.Kinds.Kinds.start g.B.Kinds.Kinds.answer_of) _ _ c.args.inlets.now outs c.args.k _ c.pour.new.inlet c.requires.within (get_or_default c.args.inlets.now c.args.k c.index-inlets-k.result no_inlet c.requires.within) c.pour.ensures.pours;
+  finish = λ outs. failed_there c.args.inlets.now c.args.k c.pour.new.inlet c.requires.within (c.in-Err-Failed.ensures.failed (cc));
+  only_if_wanted = only_there c.args.inlets.now c.args.k (get_or c.args.inlets.now c.args.k c.index-inlets-k.result) c.pour.new.inlet c.requires.within (get_or_default c.args.inlets.now c.args.k c.index-inlets-k.result no_inlet c.requires.within) c.pour.ensures.only_if_wanted;
+}
 
-pub returns-in-Err-OtherSort-clause-streams : goal.returns-in-Err-OtherSort-clause-streams
-returns-in-Err-OtherSort-clause-streams g c = λ outs.
-    streams_poured (family_of g.B.Kinds.Kinds.start g.B.Kinds.Kinds.answer_of) _ _ c.args.inlets.now outs c.args.k _ c.pour.new.inlet c.requires.within (get_or_default c.args.inlets.now c.args.k c.index-inlets-k.result no_inlet c.requires.within) c.pour.ensures.pours
+pub returns-in-Err-OtherSort-clause-poured : goal.returns-in-Err-OtherSort-clause-poured
+returns-in-Err-OtherSort-clause-poured g c = record {
+  streams = λ outs.
+      streams_poured (family_of g.B.Kinds.Kinds.start g.B.Kinds.Kinds.answer_of) _ _ c.args.inlets.now outs c.args.k _ c.pour.new.inlet c.requires.within (get_or_default c.args.inlets.now c.args.k c.index-inlets-k.result no_inlet c.requires.within) c.pour.ensures.pours;
+  finish = λ outs. other_sort_there c.pour.new.flow.network c.args.inlets.now c.args.k c.pour.new.inlet c.requires.within (c.in-Err-OtherSort.ensures.other_sort (cc));
+  only_if_wanted = only_there c.args.inlets.now c.args.k (get_or c.args.inlets.now c.args.k c.index-inlets-k.result) c.pour.new.inlet c.requires.within (get_or_default c.args.inlets.now c.args.k c.index-inlets-k.result no_inlet c.requires.within) c.pour.ensures.only_if_wanted;
+}
 
-pub returns-in-Err-Memory-clause-streams : goal.returns-in-Err-Memory-clause-streams
-returns-in-Err-Memory-clause-streams g c = λ outs.
-    streams_poured (family_of g.B.Kinds.Kinds.start g.B.Kinds.Kinds.answer_of) _ _ c.args.inlets.now outs c.args.k _ c.pour.new.inlet c.requires.within (get_or_default c.args.inlets.now c.args.k c.index-inlets-k.result no_inlet c.requires.within) c.pour.ensures.pours
-
-pub returns-in-Err-Refused-clause-finish : goal.returns-in-Err-Refused-clause-finish
-returns-in-Err-Refused-clause-finish g c = λ outs.
-    refused_there c.args.inlets.now c.args.k c.pour.new.inlet c.in-Err-Refused.refusal c.requires.within (c.in-Err-Refused.ensures.refused c.in-Err-Refused.refusal (cc))
-
-pub returns-in-Err-Failed-clause-finish : goal.returns-in-Err-Failed-clause-finish
-returns-in-Err-Failed-clause-finish g c = λ outs. failed_there c.args.inlets.now c.args.k c.pour.new.inlet c.requires.within (c.in-Err-Failed.ensures.failed (cc))
-
-pub returns-in-Err-OtherSort-clause-finish : goal.returns-in-Err-OtherSort-clause-finish
-returns-in-Err-OtherSort-clause-finish g c = λ outs. other_sort_there c.pour.new.flow.network c.args.inlets.now c.args.k c.pour.new.inlet c.requires.within (c.in-Err-OtherSort.ensures.other_sort (cc))
+pub returns-in-Err-Memory-clause-poured : goal.returns-in-Err-Memory-clause-poured
+returns-in-Err-Memory-clause-poured g c = record {
+  streams = λ outs.
+      streams_poured (family_of g.B.Kinds.Kinds.start g.B.Kinds.Kinds.answer_of) _ _ c.args.inlets.now outs c.args.k _ c.pour.new.inlet c.requires.within (get_or_default c.args.inlets.now c.args.k c.index-inlets-k.result no_inlet c.requires.within) c.pour.ensures.pours;
+  finish = λ outs. tt;
+  only_if_wanted = only_there c.args.inlets.now c.args.k (get_or c.args.inlets.now c.args.k c.index-inlets-k.result) c.pour.new.inlet c.requires.within (get_or_default c.args.inlets.now c.args.k c.index-inlets-k.result no_inlet c.requires.within) c.pour.ensures.only_if_wanted;
+}
 
 pub pour-requires : goal.pour-requires
 pour-requires g c =
     let waited : is_among c.args.flow.now.unended (get_or c.args.inlets.now c.args.k c.index-inlets-k.result).channel ≡ true =
     subst (λ (p : InletView). is_among c.args.flow.now.unended p.channel ≡ true) (sym (get_or_default c.args.inlets.now c.args.k c.index-inlets-k.result no_inlet c.requires.within)) c.requires.input in
     search (rules, waited)
-
-pub returns-in-Ok-clause-only_if_wanted : goal.returns-in-Ok-clause-only_if_wanted
-returns-in-Ok-clause-only_if_wanted g c =
-    only_there c.args.inlets.now c.args.k (get_or c.args.inlets.now c.args.k c.index-inlets-k.result) c.pour.new.inlet c.requires.within (get_or_default c.args.inlets.now c.args.k c.index-inlets-k.result no_inlet c.requires.within) c.pour.ensures.only_if_wanted
-
-pub returns-in-Err-Refused-clause-only_if_wanted : goal.returns-in-Err-Refused-clause-only_if_wanted
-returns-in-Err-Refused-clause-only_if_wanted g c =
-    only_there c.args.inlets.now c.args.k (get_or c.args.inlets.now c.args.k c.index-inlets-k.result) c.pour.new.inlet c.requires.within (get_or_default c.args.inlets.now c.args.k c.index-inlets-k.result no_inlet c.requires.within) c.pour.ensures.only_if_wanted
-
-pub returns-in-Err-Failed-clause-only_if_wanted : goal.returns-in-Err-Failed-clause-only_if_wanted
-returns-in-Err-Failed-clause-only_if_wanted g c =
-    only_there c.args.inlets.now c.args.k (get_or c.args.inlets.now c.args.k c.index-inlets-k.result) c.pour.new.inlet c.requires.within (get_or_default c.args.inlets.now c.args.k c.index-inlets-k.result no_inlet c.requires.within) c.pour.ensures.only_if_wanted
-
-pub returns-in-Err-OtherSort-clause-only_if_wanted : goal.returns-in-Err-OtherSort-clause-only_if_wanted
-returns-in-Err-OtherSort-clause-only_if_wanted g c =
-    only_there c.args.inlets.now c.args.k (get_or c.args.inlets.now c.args.k c.index-inlets-k.result) c.pour.new.inlet c.requires.within (get_or_default c.args.inlets.now c.args.k c.index-inlets-k.result no_inlet c.requires.within) c.pour.ensures.only_if_wanted
-
-pub returns-in-Err-Memory-clause-only_if_wanted : goal.returns-in-Err-Memory-clause-only_if_wanted
-returns-in-Err-Memory-clause-only_if_wanted g c =
-    only_there c.args.inlets.now c.args.k (get_or c.args.inlets.now c.args.k c.index-inlets-k.result) c.pour.new.inlet c.requires.within (get_or_default c.args.inlets.now c.args.k c.index-inlets-k.result no_inlet c.requires.within) c.pour.ensures.only_if_wanted
 
 pub offset_bounds-inlets-k : goal.offset_bounds-inlets-k
 offset_bounds-inlets-k g c = grind (arith, common_steps)

@@ -13,9 +13,9 @@ loop-k-preserved g c =
     let found = c.in_ok-channel.ensures in
     let is : c.push.new.self.items ≡ c.loop-k.channels.items ++ c.in_ok-channel.channel ∷ [] = grind (arith, common_steps) in
     record {
-      named = named_more (number_of_channel c.args.net.now) c.args.names.now c.loop-k.k c.loop-k.channels.items c.in_ok-channel.channel c.push.new.self.items c.loop-k-test.true before.named found.named is;
+      named = named_more (number_of_channel c.args.net.now) c.args.ends.now.names.now c.loop-k.k c.loop-k.channels.items c.in_ok-channel.channel c.push.new.self.items c.loop-k-test.true before.named found.named is;
       within = none_more (is_no_channel c.args.net.now) c.loop-k.channels.items c.in_ok-channel.channel c.push.new.self.items before.within found.within is;
-      idle = none_more (is_busy (family_of g.B.Kinds.Kinds.start g.B.Kinds.Kinds.answer_of) c.args.net.now c.args.way) c.loop-k.channels.items c.in_ok-channel.channel c.push.new.self.items before.idle found.idle is;
+      idle = none_more (is_busy (family_of g.B.Kinds.Kinds.start g.B.Kinds.Kinds.answer_of) c.args.net.now c.args.ends.now.way) c.loop-k.channels.items c.in_ok-channel.channel c.push.new.self.items before.idle found.idle is;
     }
 
 pub returns-clause-named : goal.returns-clause-named

@@ -7,7 +7,7 @@ use Rattle.hox_stream.proofs.starting.channels_at.Given as goal
 
 abbrev pub invariant-loop-k : goal.invariant-loop-k
 invariant-loop-k g l = record {
-  named : map (number_of_channel l.net) (take l.k l.names) ≡ map Some l.channels.items;
+  named : map (number_of_channel l.net) (take l.k l.ends.names.now) ≡ map Some l.channels.items;
   within : list_any (is_no_channel l.net) l.channels.items ≡ false;
-  idle : list_any (is_busy (family_of g.B.Kinds.Kinds.start g.B.Kinds.Kinds.answer_of) l.net l.way) l.channels.items ≡ false;
+  idle : list_any (is_busy (family_of g.B.Kinds.Kinds.start g.B.Kinds.Kinds.answer_of) l.net l.ends.way) l.channels.items ≡ false;
 }

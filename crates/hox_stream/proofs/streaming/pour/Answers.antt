@@ -8,27 +8,26 @@ use Rattle.hox_stream.proofs.Streamed.{some_each, streams_both}
 use Rattle.hox_stream.proofs.streaming.pour.Goals as goal
 use Rattle.hox_stream.proofs.streaming.pour.Goals.{then-wants_more+in_default, else-wants_more}
 
-pub returns-in-Err-clause-streams : goal.returns-in-Err-clause-streams
-returns-in-Err-clause-streams g c = c.flush_all.ensures.streams (family_of g.B.Kinds.Kinds.start g.B.Kinds.Kinds.answer_of) c.args.flow.now c.args.inlets.now
+pub returns-in-Err-clause-goes_on : goal.returns-in-Err-clause-goes_on
+returns-in-Err-clause-goes_on g c = record {
+  streams = c.flush_all.ensures.streams (family_of g.B.Kinds.Kinds.start g.B.Kinds.Kinds.answer_of) c.args.flow.now c.args.inlets.now;
+  finish = c.in-Err.ensures.finish (family_of g.B.Kinds.Kinds.start g.B.Kinds.Kinds.answer_of) c.args.flow.now c.args.inlets.now;
+  unheld = inl c.flush_all.ensures.written;
+}
 
-pub returns-in-Err-clause-finish : goal.returns-in-Err-clause-finish
-returns-in-Err-clause-finish g c = c.in-Err.ensures.finish (family_of g.B.Kinds.Kinds.start g.B.Kinds.Kinds.answer_of) c.args.flow.now c.args.inlets.now
-
-pub returns-clause-streams : goal.returns-clause-streams
-returns-clause-streams g c =
-    let Left : OutsView → Type 0 = λ outs. Streams (family_of g.B.Kinds.Kinds.start g.B.Kinds.Kinds.answer_of) c.args.flow.now c.pour_next.new.flow c.args.inlets.now c.pour_next.new.inlets c.args.outs.now outs in
-    elim c.if-wants_more.branch [
-      | then-wants_more+in_default w ↦
-          subst Left (sym w.outs-is) (streams_both (family_of g.B.Kinds.Kinds.start g.B.Kinds.Kinds.answer_of) _ _ _ _ _ _ _ _ _ (w.flush_all.ensures.streams (family_of g.B.Kinds.Kinds.start g.B.Kinds.Kinds.answer_of) c.args.flow.now c.args.inlets.now) (c.pour_next.ensures.streams w.flush_all.new.self))
-      | else-wants_more w ↦ subst Left (sym w.outs-is) (c.pour_next.ensures.streams c.args.outs.now)
-    ]
-
-pub returns-clause-finish : goal.returns-clause-finish
-returns-clause-finish g c = some_each _ c.pour_next.result c.pour_next.ensures.finish c.if-wants_more.outs
-
-pub returns-clause-unheld : goal.returns-clause-unheld
-returns-clause-unheld g c =
-    elim c.if-wants_more.branch [
-      | then-wants_more+in_default w ↦ inl (subst AreWritten (sym w.outs-is) w.flush_all.ensures.written)
-      | else-wants_more w ↦ unheld c.args.inlets.now c.pour_next.new.inlets c.if-wants_more.outs c.pour_next.ensures.only_if_wanted (sym c.wants_more.ensures ∙ w.if-wants_more.false)
-    ]
+pub returns-clause-goes_on : goal.returns-clause-goes_on
+returns-clause-goes_on g c = record {
+  streams =
+      let Left : OutsView → Type 0 = λ outs. Streams (family_of g.B.Kinds.Kinds.start g.B.Kinds.Kinds.answer_of) c.args.flow.now c.pour_next.new.flow c.args.inlets.now c.pour_next.new.inlets c.args.outs.now outs in
+      elim c.if-wants_more.branch [
+        | then-wants_more+in_default w ↦
+            subst Left (sym w.outs-is) (streams_both (family_of g.B.Kinds.Kinds.start g.B.Kinds.Kinds.answer_of) _ _ _ _ _ _ _ _ _ (w.flush_all.ensures.streams (family_of g.B.Kinds.Kinds.start g.B.Kinds.Kinds.answer_of) c.args.flow.now c.args.inlets.now) (c.pour_next.ensures.poured.streams w.flush_all.new.self))
+        | else-wants_more w ↦ subst Left (sym w.outs-is) (c.pour_next.ensures.poured.streams c.args.outs.now)
+      ];
+  finish = some_each _ c.pour_next.result c.pour_next.ensures.poured.finish c.if-wants_more.outs;
+  unheld =
+      elim c.if-wants_more.branch [
+        | then-wants_more+in_default w ↦ inl (subst AreWritten (sym w.outs-is) w.flush_all.ensures.written)
+        | else-wants_more w ↦ unheld c.args.inlets.now c.pour_next.new.inlets c.if-wants_more.outs c.pour_next.ensures.poured.only_if_wanted (sym c.wants_more.ensures ∙ w.if-wants_more.false)
+      ];
+}

@@ -11,12 +11,12 @@ returns-in-Ok g c =
     let kinds = family_of g.B.Kinds.Kinds.start g.B.Kinds.Kinds.answer_of in
     let x = c.stream-finish.ensures in
     let mid = c.stream-finish.new.outs in
-    streams_ended kinds _ c.stream-finish.new.flow _ c.stream-finish.new.inlets _ mid c.end.new.self c.stream-finish.result x.streams x.written c.end.ensures.sinks c.end.ensures.ends x.one_run
-    (inl (subst (λ (l : List OutletView). IsFinish kinds c.stream-finish.new.flow c.stream-finish.new.inlets (outs l mid.tables) c.stream-finish.result) (sym c.end.ensures.sinks) x.finish))
+    streams_ended kinds _ c.stream-finish.new.flow _ c.stream-finish.new.inlets _ mid c.end.new.self c.stream-finish.result x.ended.streams x.written c.end.ensures.sinks c.end.ensures.ends x.one_run
+    (inl (subst (λ (l : List OutletView). IsFinish kinds c.stream-finish.new.flow c.stream-finish.new.inlets (outs l mid.tables) c.stream-finish.result) (sym c.end.ensures.sinks) x.ended.finish))
 
 pub returns-in-Err : goal.returns-in-Err
 returns-in-Err g c =
     let kinds = family_of g.B.Kinds.Kinds.start g.B.Kinds.Kinds.answer_of in
     let x = c.stream-finish.ensures in
-    streams_ended kinds _ c.stream-finish.new.flow _ c.stream-finish.new.inlets _ c.stream-finish.new.outs c.end.new.self c.in-Err.unwritten x.streams x.written c.end.ensures.sinks c.end.ensures.ends x.one_run
+    streams_ended kinds _ c.stream-finish.new.flow _ c.stream-finish.new.inlets _ c.stream-finish.new.outs c.end.new.self c.in-Err.unwritten x.ended.streams x.written c.end.ensures.sinks c.end.ensures.ends x.one_run
     (inr (c.in-Err.ensures.finish kinds c.stream-finish.new.flow c.stream-finish.new.inlets))

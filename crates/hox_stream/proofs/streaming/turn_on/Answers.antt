@@ -8,7 +8,7 @@ pub turns-init : goal.turns-init
 turns-init g c = streams_none (family_of g.B.Kinds.Kinds.start g.B.Kinds.Kinds.answer_of) _ _ _ _ refl
 
 pub turns-preserved : goal.turns-preserved
-turns-preserved g c = streams_both (family_of g.B.Kinds.Kinds.start g.B.Kinds.Kinds.answer_of) _ _ _ _ _ _ _ _ _ c.turns.invariant c.turn.ensures.streams
+turns-preserved g c = streams_both (family_of g.B.Kinds.Kinds.start g.B.Kinds.Kinds.answer_of) _ _ _ _ _ _ _ _ _ c.turns.invariant c.turn.ensures.goes_on.streams
 
-pub returns-in-Some-clause-streams : goal.returns-in-Some-clause-streams
-returns-in-Some-clause-streams g c = streams_both (family_of g.B.Kinds.Kinds.start g.B.Kinds.Kinds.answer_of) _ _ _ _ _ _ _ _ _ c.turns.invariant c.turn.ensures.streams
+pub returns-in-Some : goal.returns-in-Some
+returns-in-Some g c = record { streams = streams_both (family_of g.B.Kinds.Kinds.start g.B.Kinds.Kinds.answer_of) _ _ _ _ _ _ _ _ _ c.turns.invariant c.turn.ensures.goes_on.streams; finish = c.in-Some.ensures.goes_on.finish }

@@ -9,42 +9,62 @@ use Rattle.hox_stream.proofs.Flowed.{drained_at_ends, same_net_none, same_net_of
 use Rattle.hox_stream.proofs.Tabled.{only_none, writes_table_none}
 use Rattle.hox_stream.proofs.tabling.tell_lane.Goals as goal
 
-pub returns-in-Ok-clause-tells : goal.returns-in-Ok-clause-tells
-returns-in-Ok-clause-tells g c =
+pub returns-in-Ok : goal.returns-in-Ok
+returns-in-Ok g c =
     let channel = channel_at c.args.table.now c.args.place in
     let output : is_among c.args.flow.now.outputs channel ≡ true = subst (λ n. is_among c.args.flow.now.outputs n ≡ true) c.channel-channel.ensures (sym c.is_output.ensures ∙ c.if-not-is_output.false) in
     record {
-      same = same_net_of _ _ c.drain_into-count.ensures.same;
-      tokens = take c.drain_into-count.result c.drain_into-count.new.buffer;
-      writes = c.write.ensures.writes;
-      flows = rw c.channel-channel.ensures at c.drain_into-count.ensures.drained;
-      at_ends = drained_at_ends (is_among c.args.flow.now.inputs) (is_among c.args.flow.now.outputs) channel (take c.drain_into-count.result c.drain_into-count.new.buffer) output;
+      tells = record {
+        same = same_net_of _ _ c.drain_into-count.ensures.same;
+        tokens = take c.drain_into-count.result c.drain_into-count.new.buffer;
+        writes = c.write.ensures.writes;
+        flows = rw c.channel-channel.ensures at c.drain_into-count.ensures.drained;
+        at_ends = drained_at_ends (is_among c.args.flow.now.inputs) (is_among c.args.flow.now.outputs) channel (take c.drain_into-count.result c.drain_into-count.new.buffer) output;
+      };
+      same = c.drain_into-count.ensures.same;
+      none = λ e. cc;
+      fault = tt;
     }
 
-pub returns-in-Err-clause-tells : goal.returns-in-Err-clause-tells
-returns-in-Err-clause-tells g c =
+pub returns-in-Err : goal.returns-in-Err
+returns-in-Err g c =
     let channel = channel_at c.args.table.now c.args.place in
     let output : is_among c.args.flow.now.outputs channel ≡ true = subst (λ n. is_among c.args.flow.now.outputs n ≡ true) c.channel-channel.ensures (sym c.is_output.ensures ∙ c.if-not-is_output.false) in
     record {
-      same = same_net_of _ _ c.drain_into-count.ensures.same;
-      tokens = take c.drain_into-count.result c.drain_into-count.new.buffer;
-      writes = c.write.ensures.writes;
-      flows = rw c.channel-channel.ensures at c.drain_into-count.ensures.drained;
-      at_ends = drained_at_ends (is_among c.args.flow.now.inputs) (is_among c.args.flow.now.outputs) channel (take c.drain_into-count.result c.drain_into-count.new.buffer) output;
+      tells = record {
+        same = same_net_of _ _ c.drain_into-count.ensures.same;
+        tokens = take c.drain_into-count.result c.drain_into-count.new.buffer;
+        writes = c.write.ensures.writes;
+        flows = rw c.channel-channel.ensures at c.drain_into-count.ensures.drained;
+        at_ends = drained_at_ends (is_among c.args.flow.now.inputs) (is_among c.args.flow.now.outputs) channel (take c.drain_into-count.result c.drain_into-count.new.buffer) output;
+      };
+      same = c.drain_into-count.ensures.same;
+      none = λ e. cc;
+      fault = c.in-Err.ensures.fault;
     }
 
-pub returns-then-not-is_output-clause-tells : goal.returns-then-not-is_output-clause-tells
-returns-then-not-is_output-clause-tells g c =
-    record { same = same_net_none c.args.flow.now; tokens = []; writes = writes_table_none c.args.table.now (only_at c.args.place []) (λ i h. only_none c.args.place i); flows = refl; at_ends = tt }
+pub returns-then-not-is_output : goal.returns-then-not-is_output
+returns-then-not-is_output g c =
+    record {
+      tells = record { same = same_net_none c.args.flow.now; tokens = []; writes = writes_table_none c.args.table.now (only_at c.args.place []) (λ i h. only_none c.args.place i); flows = refl; at_ends = tt };
+      same = record { network = refl; inputs = refl; unended = refl; outputs = refl };
+      none = λ e. refl;
+      fault = tt;
+    }
 
-pub returns-then-count-eq0-clause-tells : goal.returns-then-count-eq0-clause-tells
-returns-then-count-eq0-clause-tells g c =
+pub returns-then-count-eq0 : goal.returns-then-count-eq0
+returns-then-count-eq0 g c =
     let kinds = family_of g.B.Kinds.Kinds.start g.B.Kinds.Kinds.answer_of in
     let Led : ℕ → Type 0 = λ n. Flows kinds c.args.flow.now.network c.args.flow.now.state (map (λ token. Drained c.channel-channel.result token) (take n c.drain_into-count.new.buffer)) c.drain_into-count.new.self.state in
     record {
-      same = same_net_of _ _ c.drain_into-count.ensures.same;
-      tokens = [];
-      writes = writes_table_none c.args.table.now (only_at c.args.place []) (λ i h. only_none c.args.place i);
-      flows = subst Led c.if-count-eq0.true c.drain_into-count.ensures.drained;
-      at_ends = tt;
+      tells = record {
+        same = same_net_of _ _ c.drain_into-count.ensures.same;
+        tokens = [];
+        writes = writes_table_none c.args.table.now (only_at c.args.place []) (λ i h. only_none c.args.place i);
+        flows = subst Led c.if-count-eq0.true c.drain_into-count.ensures.drained;
+        at_ends = tt;
+      };
+      same = c.drain_into-count.ensures.same;
+      none = λ e. subst Led c.if-count-eq0.true c.drain_into-count.ensures.drained;
+      fault = tt;
     }

@@ -13,8 +13,16 @@ loop-place-init g c = record {
   none = λ e. refl;
 }
 
-pub returns-in-Err-clause-streams : goal.returns-in-Err-clause-streams
-returns-in-Err-clause-streams g c = λ ins sinks. streams_both (family_of g.B.Kinds.Kinds.start g.B.Kinds.Kinds.answer_of) _ _ _ _ _ _ _ _ _ (c.loop-place.invariant.streams ins sinks) (c.tell_lane_at.ensures.streams ins sinks)
+pub returns-in-Err : goal.returns-in-Err
+returns-in-Err g c =
+    let before = c.loop-place.invariant.same in
+    let after = c.tell_lane_at.ensures.same in
+    record {
+      streams = λ ins sinks. streams_both (family_of g.B.Kinds.Kinds.start g.B.Kinds.Kinds.answer_of) _ _ _ _ _ _ _ _ _ (c.loop-place.invariant.streams ins sinks) (c.tell_lane_at.ensures.streams ins sinks);
+      same = record { network = after.network ∙ before.network; inputs = after.inputs ∙ before.inputs; unended = after.unended ∙ before.unended; outputs = after.outputs ∙ before.outputs };
+      none = λ e. cc;
+      finish = c.in-Err.ensures.finish;
+    }
 
 pub loop-place-preserved : goal.loop-place-preserved
 loop-place-preserved g c =
@@ -34,3 +42,6 @@ loop-place-preserved g c =
 
 pub offset_bounds-tables-k : goal.offset_bounds-tables-k
 offset_bounds-tables-k g c = grind (arith, common_steps)
+
+pub returns : goal.returns
+returns g c = record { streams = c.loop-place.invariant.streams; same = c.loop-place.invariant.same; none = λ e. c.loop-place.invariant.none (cc); finish = tt }

@@ -7,27 +7,37 @@ use Rattle.hox_stream.specs.Views.{no_outlet}
 use Rattle.hox_stream.proofs.Streamed.{streams_told}
 use Rattle.hox_stream.proofs.telling.tell_at.Goals as goal
 
-pub returns-in-Ok-clause-streams : goal.returns-in-Ok-clause-streams
-returns-in-Ok-clause-streams g c = λ ins tables.
-    streams_told (family_of g.B.Kinds.Kinds.start g.B.Kinds.Kinds.answer_of) _ _ ins c.args.outlets.now tables c.args.k _ c.tell.new.outlet c.requires (get_or_default c.args.outlets.now c.args.k c.index-outlets-k.result no_outlet c.requires) c.tell.ensures.tells
+pub returns-in-Ok : goal.returns-in-Ok
+returns-in-Ok g c = record {
+  streams = λ ins tables. streams_told (family_of g.B.Kinds.Kinds.start g.B.Kinds.Kinds.answer_of) _ _ ins c.args.outlets.now tables c.args.k _ c.tell.new.outlet c.requires (get_or_default c.args.outlets.now c.args.k c.index-outlets-k.result no_outlet c.requires) c.tell.ensures.tells;
+  same = c.tell.ensures.same;
+  none = λ e. c.in-Ok.ensures.none (cc);
+  finish = tt;
+}
 
-pub returns-in-Err-Failed-clause-streams : goal.returns-in-Err-Failed-clause-streams
-returns-in-Err-Failed-clause-streams g c = λ ins tables.
-    streams_told (family_of g.B.Kinds.Kinds.start g.B.Kinds.Kinds.answer_of) _ _ ins c.args.outlets.now tables c.args.k _ c.tell.new.outlet c.requires (get_or_default c.args.outlets.now c.args.k c.index-outlets-k.result no_outlet c.requires) c.tell.ensures.tells
+pub returns-in-Err-Failed : goal.returns-in-Err-Failed
+returns-in-Err-Failed g c = record {
+  streams = λ ins tables. streams_told (family_of g.B.Kinds.Kinds.start g.B.Kinds.Kinds.answer_of) _ _ ins c.args.outlets.now tables c.args.k _ c.tell.new.outlet c.requires (get_or_default c.args.outlets.now c.args.k c.index-outlets-k.result no_outlet c.requires) c.tell.ensures.tells;
+  same = c.tell.ensures.same;
+  none = λ e. cc;
+  finish = λ ins tables. grind (arith, common_steps);
+}
 
-pub returns-in-Err-Memory-clause-streams : goal.returns-in-Err-Memory-clause-streams
-returns-in-Err-Memory-clause-streams g c = λ ins tables.
-    streams_told (family_of g.B.Kinds.Kinds.start g.B.Kinds.Kinds.answer_of) _ _ ins c.args.outlets.now tables c.args.k _ c.tell.new.outlet c.requires (get_or_default c.args.outlets.now c.args.k c.index-outlets-k.result no_outlet c.requires) c.tell.ensures.tells
+pub returns-in-Err-Misfit : goal.returns-in-Err-Misfit
+returns-in-Err-Misfit g c = record {
+  streams = λ ins tables. streams_told (family_of g.B.Kinds.Kinds.start g.B.Kinds.Kinds.answer_of) _ _ ins c.args.outlets.now tables c.args.k _ c.tell.new.outlet c.requires (get_or_default c.args.outlets.now c.args.k c.index-outlets-k.result no_outlet c.requires) c.tell.ensures.tells;
+  same = c.tell.ensures.same;
+  none = λ e. cc;
+  finish = λ ins tables. grind (arith, common_steps);
+}
 
-pub returns-in-Err-Misfit-clause-streams : goal.returns-in-Err-Misfit-clause-streams
-returns-in-Err-Misfit-clause-streams g c = λ ins tables.
-    streams_told (family_of g.B.Kinds.Kinds.start g.B.Kinds.Kinds.answer_of) _ _ ins c.args.outlets.now tables c.args.k _ c.tell.new.outlet c.requires (get_or_default c.args.outlets.now c.args.k c.index-outlets-k.result no_outlet c.requires) c.tell.ensures.tells
+pub returns-in-Err-Memory : goal.returns-in-Err-Memory
+returns-in-Err-Memory g c = record {
+  streams = λ ins tables. streams_told (family_of g.B.Kinds.Kinds.start g.B.Kinds.Kinds.answer_of) _ _ ins c.args.outlets.now tables c.args.k _ c.tell.new.outlet c.requires (get_or_default c.args.outlets.now c.args.k c.index-outlets-k.result no_outlet c.requires) c.tell.ensures.tells;
+  same = c.tell.ensures.same;
+  none = λ e. cc;
+  finish = λ ins tables. tt;
+}
 
 pub offset_bounds-outlets-k : goal.offset_bounds-outlets-k
 offset_bounds-outlets-k g c = grind (arith, common_steps)
-
-pub returns-in-Err-Misfit-clause-finish : goal.returns-in-Err-Misfit-clause-finish
-returns-in-Err-Misfit-clause-finish g c = grind (arith, common_steps)
-
-pub returns-in-Err-Failed-clause-finish : goal.returns-in-Err-Failed-clause-finish
-returns-in-Err-Failed-clause-finish g c = grind (arith, common_steps)

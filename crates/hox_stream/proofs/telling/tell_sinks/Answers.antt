@@ -12,8 +12,16 @@ loop-k-init g c = record {
   none = λ e. refl;
 }
 
-pub returns-in-Err-clause-streams : goal.returns-in-Err-clause-streams
-returns-in-Err-clause-streams g c = λ ins tables. streams_both (family_of g.B.Kinds.Kinds.start g.B.Kinds.Kinds.answer_of) _ _ _ _ _ _ _ _ _ (c.loop-k.invariant.streams ins tables) (c.tell_at.ensures.streams ins tables)
+pub returns-in-Err : goal.returns-in-Err
+returns-in-Err g c =
+    let before = c.loop-k.invariant.same in
+    let after = c.tell_at.ensures.same in
+    record {
+      streams = λ ins tables. streams_both (family_of g.B.Kinds.Kinds.start g.B.Kinds.Kinds.answer_of) _ _ _ _ _ _ _ _ _ (c.loop-k.invariant.streams ins tables) (c.tell_at.ensures.streams ins tables);
+      same = record { network = after.network ∙ before.network; inputs = after.inputs ∙ before.inputs; unended = after.unended ∙ before.unended; outputs = after.outputs ∙ before.outputs };
+      none = λ e. cc;
+      finish = c.in-Err.ensures.finish;
+    }
 
 pub loop-k-preserved : goal.loop-k-preserved
 loop-k-preserved g c =
@@ -30,3 +38,6 @@ loop-k-preserved g c =
                 c.in-Ok.ensures.none (cc) ∙ c.loop-k.invariant.none w.if-has_moved.false
           ];
     }
+
+pub returns : goal.returns
+returns g c = record { streams = c.loop-k.invariant.streams; same = c.loop-k.invariant.same; none = λ e. c.loop-k.invariant.none (cc); finish = tt }

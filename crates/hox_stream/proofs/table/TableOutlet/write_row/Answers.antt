@@ -3,20 +3,14 @@ use Rattle.std.proofs.Common.{arith}
 use Rattle.std.proofs.lemmas.Grind.{common_steps}
 use Rattle.hox_stream.proofs.table.TableOutlet.write_row.Goals as goal
 
-pub returns-clause-rows : goal.returns-clause-rows
-returns-clause-rows g c = grind (arith, common_steps)
+pub returns : goal.returns
+returns g c = record { rows = grind (arith, common_steps); failed = tt; fault = tt }
 
-pub returns-then-len-le-PIECE-clause-rows : goal.returns-then-len-le-PIECE-clause-rows
-returns-then-len-le-PIECE-clause-rows g c = grind (arith, common_steps)
+pub returns-then-len-le-PIECE : goal.returns-then-len-le-PIECE
+returns-then-len-le-PIECE g c = record { rows = grind (arith, common_steps); failed = tt; fault = tt }
 
-pub returns-then-is_err-2-clause-rows : goal.returns-then-is_err-2-clause-rows
-returns-then-is_err-2-clause-rows g c = grind (arith, common_steps)
+pub returns-then-is_err-2 : goal.returns-then-is_err-2
+returns-then-is_err-2 g c = record { rows = grind (arith, common_steps); failed = grind (arith, common_steps); fault = grind (arith, common_steps) }
 
-pub returns-then-is_err-clause-rows : goal.returns-then-is_err-clause-rows
-returns-then-is_err-clause-rows g c = grind (arith, common_steps)
-
-pub returns-then-is_err-2-clause-failed : goal.returns-then-is_err-2-clause-failed
-returns-then-is_err-2-clause-failed g c = grind (arith, common_steps)
-
-pub returns-then-is_err-clause-failed : goal.returns-then-is_err-clause-failed
-returns-then-is_err-clause-failed g c = grind (arith, common_steps)
+pub returns-then-is_err : goal.returns-then-is_err
+returns-then-is_err g c = record { rows = grind (arith, common_steps); failed = grind (arith, common_steps); fault = grind (arith, common_steps) }
