@@ -296,34 +296,33 @@ fn take_out<B: Body, H: Keeper>(
     Task::new(process, body, *local, *last)
 }
 
-#[inline(always)]
-fn is_out_with<K: Kinds, H: Keeper>(
-    net: &Net<K>,
-    store: &Store<H>,
-    standings: &[Standing],
+/// What a task, or one that was called, holds beside its body.
+#[derive(Clone, Copy)]
+struct Input {
     process: usize,
     card: Card,
     local: Local,
     last: Option<Token>,
-) -> bool
-    requires keeps { StandingsFit (family K.Kinds) K.admits net.now None store.now.state standings.now }
-    ensures { IsTrue result ↔ IsOutAt net.now store.now.state standings.now (input process card local last) }
+}
+
+#[inline(always)]
+fn is_out_with<K: Kinds, H: Keeper>(net: &Net<K>, core: &Core<H>, held: Input) -> bool
+    requires keeps { StandingsFit (family K.Kinds) K.admits net.now None core.now.store.state core.now.standings }
+    ensures { IsTrue result ↔ IsOutAt net.now core.now.store.state core.now.standings (input held.process held.card held.local held.last) }
 {
-    if process >= standings.len() {
+    let standings = core.standings.as_slice();
+    if held.process >= standings.len() {
         return false;
     }
-    match standings[process] {
+    match standings[held.process] {
         Standing::Out => {}
         Standing::Ready | Standing::Parked(_) | Standing::Stopped => return false,
     }
-    if !same_card(net.card(process), card) {
+    if !same_card(net.card(held.process), held.card) {
         return false;
     }
-    match store.status(process) {
-        Status::Live {
-            local: now,
-            last: read,
-        } => same_local(*now, local) && *read == last,
+    match core.store.status(held.process) {
+        Status::Live { local, last } => same_local(*local, held.local) && *last == held.last,
         Status::Done => false,
     }
 }
@@ -334,15 +333,13 @@ impl<B: Body, H: Keeper> Machine<B, H> {
     pub fn has_asked(&self, finished: &Finished<B>) -> bool
         ensures { IsTrue result ↔ IsOut self.now finished.now }
     {
-        is_out_with(
-            &self.net,
-            &self.core.store,
-            self.core.standings.as_slice(),
-            finished.process(),
-            finished.card(),
-            finished.local(),
-            finished.last(),
-        )
+        let held = Input {
+            process: finished.process(),
+            card: finished.card(),
+            local: finished.local(),
+            last: finished.last(),
+        };
+        is_out_with(&self.net, &self.core, held)
     }
 
     /// Whether the process of a task is out, with its card, local state and last token.
@@ -350,15 +347,13 @@ impl<B: Body, H: Keeper> Machine<B, H> {
     pub fn has_sent(&self, task: &Task<B>) -> bool
         ensures { IsTrue result ↔ IsOut self.now task.now }
     {
-        is_out_with(
-            &self.net,
-            &self.core.store,
-            self.core.standings.as_slice(),
-            task.process(),
-            task.card(),
-            task.local(),
-            task.last(),
-        )
+        let held = Input {
+            process: task.process(),
+            card: task.card(),
+            local: task.local(),
+            last: task.last(),
+        };
+        is_out_with(&self.net, &self.core, held)
     }
 
     /// Takes the answer of a process that is out, and returns what it did.

@@ -15,42 +15,57 @@ use std::rt::Clock;
 use std::sync::Wait;
 use std::thread::Threads;
 
-/// Runs a network of flips with 1 to 16 workers, and writes its report, with the stream of the channel
-/// `show`. Returns the exit status. Errors: out of memory for the bodies; nothing is written.
+/// Runs a network of flips with two workers, and writes its report, with the stream of the channel `show`.
+/// Returns the exit status. Errors: out of memory for the bodies; nothing is written.
 pub(crate) fn run_flips<S: Sink, R: Wait + Clock + Threads + Sync>(
     rt: &R,
     alloc: Global,
     net: Net<Flips>,
-    workers: usize,
-    show: Option<&str>,
+    show: &str,
     sink: &mut S,
 ) -> Result<u8, AllocError>
-    requires workers { (1 ≤ workers) × (workers ≤ 16) }
-    ensures ok { IfOk result (Executes flips net workers (option_map (λ s. s.now) show.entry) (S.seen sink.old) (S.seen sink.new)) }
+    ensures ok { IfOk result (Executes flips net 2 (Some show.now) (S.seen sink.old) (S.seen sink.new)) }
     ensures err { OnErr result (sink.new ≡ sink.old) }
 {
     let cards = cards_of(alloc, &net)?;
-    run_with_cards(rt, alloc, cards.as_slice(), Some(net), workers, show, sink)
+    let request = FlipsRequest {
+        cards: cards.as_slice(),
+        net: Some(net),
+        workers: 2,
+        show: Some(show),
+    };
+    run_with_cards(rt, alloc, request, sink)
 }
 
-/// Runs a network with these cards. It comes in an `Option` since, with a `Net` held by value, the check
-/// finds no proof of a loop that makes closures.
+/// A network with its cards, and how it is to be run and shown. It comes in an `Option` since, with a `Net` held by
+/// value, the check finds no proof of a loop that makes closures.
+#[derive(Drop)]
+struct FlipsRequest<'a> {
+    cards: &'a [Card],
+    net: Option<Net<Flips>>,
+    workers: usize,
+    show: Option<&'a str>,
+}
+
 fn run_with_cards<S: Sink, R: Wait + Clock + Threads + Sync>(
     rt: &R,
     alloc: Global,
-    cards: &[Card],
-    net: Option<Net<Flips>>,
-    workers: usize,
-    show: Option<&str>,
+    request: FlipsRequest<'_>,
     sink: &mut S,
 ) -> Result<u8, AllocError>
-    requires signed { All (λ card. IsSome (ports card)) cards.now }
-    requires cards { IfSome net (λ n. cards.now ≡ cards_of n.processes) }
-    requires some { IsSome net }
-    requires workers { (1 ≤ workers) × (workers ≤ 16) }
-    ensures ok { IfOk result (λ status. IfSome net (λ n. Executes flips n workers (option_map (λ s. s.now) show.entry) (S.seen sink.old) (S.seen sink.new) status)) }
+    requires signed { All (λ card. IsSome (ports card)) request.cards.now }
+    requires cards { IfSome request.net (λ n. request.cards.now ≡ cards_of n.processes) }
+    requires some { IsSome request.net }
+    requires workers { (1 ≤ request.workers) × (request.workers ≤ 16) }
+    ensures ok { IfOk result (λ status. IfSome request.net (λ n. Executes flips n request.workers (option_map (λ s. s.now) request.show) (S.seen sink.old) (S.seen sink.new) status)) }
     ensures err { OnErr result (sink.new ≡ sink.old) }
 {
+    let FlipsRequest {
+        cards,
+        net,
+        workers,
+        show,
+    } = request;
     let mut bodies = Vec::new(alloc);
     for process in 0..cards.len() {
         let card = signed_card(cards, process);

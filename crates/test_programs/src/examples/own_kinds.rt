@@ -106,7 +106,7 @@ fn compare_loop<R: Threads + Wait + Clock + Abort + Sync>(
     out: &mut Vec<u8>,
 ) {
     let net: Net<Flips> = network(rt, alloc, FLIP_LOOP);
-    let ran = run_flips(rt, alloc, net, 2, Some("c0"), out);
+    let ran = run_flips(rt, alloc, net, "c0", out);
     same(rt, "status", ran.expect(rt, "no memory"), 5);
     same(rt, "lines", out.as_slice(), FLIP_LINES.as_bytes());
 }
