@@ -2,8 +2,8 @@
 //!
 //! Each test passes whichever fails, and prints which one. It retries with what the error returned, which
 //! succeeds.
-ghost use Rattle.std.specs.Prelude.{◌≡◌};
 ghost use Rattle.kpn_machine.specs.MachineView.{IsFresh};
+ghost use Rattle.kpn_monitor.specs.Views.{AreNamesOf};
 
 use crate::checks::same;
 use crate::monitor::monitors::{
@@ -117,10 +117,7 @@ fn work_to_the_end<B: Body, E: EntryLedger, O: Ledger, R: Wait + Abort>(
     opening: Opening<B>,
     due: Shown,
 ) -> Result<Refused, AllocError>
-    requires network { opening.machine.network ≡ E.net }
-    requires board { opening.board ≡ E.board }
-    requires entries { (opening.entries.name ≡ E.name) × (opening.entries.parts ≡ E.parts) }
-    requires overs { (opening.overs.name ≡ O.name) × (opening.overs.parts ≡ O.parts) }
+    requires names { AreNamesOf E.EntryLedger O.Ledger opening }
 {
     let (monitor, seat) = Monitor::<B, E, O>::open(opening);
     let mut watcher = watcher_of(rt, &monitor);

@@ -1,5 +1,6 @@
 //! Scenes on a monitor, as generic functions: the names of its ledgers are type parameters.
 ghost use Rattle.std.specs.Prelude.{◌≡◌, ◌<◌, ◌++◌, ◌∷◌, [], All, IfSome};
+ghost use Rattle.kpn_monitor.specs.Views.{AreNamesOf};
 
 use crate::checks::same;
 use crate::monitor::exchanges::{SHOWN, asked_in_place, exchanged};
@@ -92,10 +93,7 @@ fn play_opened<
     O: Ledger + Send + Sync,
     R: Threads + Wait + Clock + Abort + Sync,
 >(rt: &R, alloc: Global, opening: Opening<B>, scene: Scene)
-    requires network { opening.machine.network ≡ E.net }
-    requires board { opening.board ≡ E.board }
-    requires entries { (opening.entries.name ≡ E.name) × (opening.entries.parts ≡ E.parts) }
-    requires overs { (opening.overs.name ≡ O.name) × (opening.overs.parts ≡ O.parts) }
+    requires names { AreNamesOf E.EntryLedger O.Ledger opening }
 {
     let (monitor, seat) = Monitor::<B, E, O>::open(opening);
     match scene {

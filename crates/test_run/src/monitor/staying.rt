@@ -1,5 +1,6 @@
 //! A process that can continue stays in its hand.
 ghost use Rattle.std.specs.Prelude.{◌≡◌, length};
+ghost use Rattle.kpn_monitor.specs.Views.{AreNamesOf};
 
 use crate::checks::same;
 use crate::monitor::exchanges::call_all;
@@ -223,10 +224,7 @@ fn counter_opened<B: Body, E: EntryLedger, O: Ledger, R: Wait + Abort>(
     opening: Opening<B>,
     rounds: &[Round],
 )
-    requires network { opening.machine.network ≡ E.net }
-    requires board { opening.board ≡ E.board }
-    requires entries { (opening.entries.name ≡ E.name) × (opening.entries.parts ≡ E.parts) }
-    requires overs { (opening.overs.name ≡ O.name) × (opening.overs.parts ≡ O.parts) }
+    requires names { AreNamesOf E.EntryLedger O.Ledger opening }
 {
     let (monitor, mut seat) = Monitor::<B, E, O>::open(opening);
     play_alone(rt, alloc, &monitor, &mut seat, rounds);
@@ -307,14 +305,8 @@ fn refused_between<B: Body, E: EntryLedger, O: Ledger, F: EntryLedger, P: Ledger
     first: Opening<B>,
     second: Opening<B>,
 )
-    requires network { first.machine.network ≡ E.net }
-    requires board { first.board ≡ E.board }
-    requires entries { (first.entries.name ≡ E.name) × (first.entries.parts ≡ E.parts) }
-    requires overs { (first.overs.name ≡ O.name) × (first.overs.parts ≡ O.parts) }
-    requires second_network { second.machine.network ≡ F.net }
-    requires second_board { second.board ≡ F.board }
-    requires second_entries { (second.entries.name ≡ F.name) × (second.entries.parts ≡ F.parts) }
-    requires second_overs { (second.overs.name ≡ P.name) × (second.overs.parts ≡ P.parts) }
+    requires names { AreNamesOf E.EntryLedger O.Ledger first }
+    requires second_names { AreNamesOf F.EntryLedger P.Ledger second }
 {
     let (monitor, mut seat) = Monitor::<B, E, O>::open(first);
     let (other, mut other_seat) = Monitor::<B, F, P>::open(second);

@@ -1,5 +1,6 @@
 //! Answers that the monitor didn't ask for: from another monitor, and made a second time.
 ghost use Rattle.std.specs.Prelude.{◌≡◌};
+ghost use Rattle.kpn_monitor.specs.Views.{AreNamesOf};
 
 use crate::checks::same;
 use crate::monitor::monitors::{
@@ -121,14 +122,8 @@ fn stranger_between<B: Body, E: EntryLedger, O: Ledger, F: EntryLedger, P: Ledge
     first: Opening<B>,
     second: Opening<B>,
 )
-    requires network { first.machine.network ≡ E.net }
-    requires board { first.board ≡ E.board }
-    requires entries { (first.entries.name ≡ E.name) × (first.entries.parts ≡ E.parts) }
-    requires overs { (first.overs.name ≡ O.name) × (first.overs.parts ≡ O.parts) }
-    requires second_network { second.machine.network ≡ F.net }
-    requires second_board { second.board ≡ F.board }
-    requires second_entries { (second.entries.name ≡ F.name) × (second.entries.parts ≡ F.parts) }
-    requires second_overs { (second.overs.name ≡ P.name) × (second.overs.parts ≡ P.parts) }
+    requires names { AreNamesOf E.EntryLedger O.Ledger first }
+    requires second_names { AreNamesOf F.EntryLedger P.Ledger second }
 {
     let (monitor, mut seat) = Monitor::<B, E, O>::open(first);
     let (other, other_seat) = Monitor::<B, F, P>::open(second);
@@ -183,10 +178,7 @@ fn second_answer<B: Body, E: EntryLedger, O: Ledger, R: Wait + Abort>(
     opening: Opening<B>,
     second: Finished<B>,
 )
-    requires network { opening.machine.network ≡ E.net }
-    requires board { opening.board ≡ E.board }
-    requires entries { (opening.entries.name ≡ E.name) × (opening.entries.parts ≡ E.parts) }
-    requires overs { (opening.overs.name ≡ O.name) × (opening.overs.parts ≡ O.parts) }
+    requires names { AreNamesOf E.EntryLedger O.Ledger opening }
 {
     let (monitor, mut seat) = Monitor::<B, E, O>::open(opening);
     let mut watcher = watcher_of(rt, &monitor);
