@@ -7,8 +7,8 @@ use Rattle.kpn_machine.proofs.machine.is_out_with.Goals as goal
 pub returns-in-Ready : goal.returns-in-Ready
 returns-in-Ready g c = grind (arith, common_steps)
 
-pub returns-then-process-standings : goal.returns-then-process-standings
-returns-then-process-standings g c = grind (arith, common_steps)
+pub returns-then-held-standings : goal.returns-then-held-standings
+returns-then-held-standings g c = grind (arith, common_steps)
 
 pub returns-then-same_local : goal.returns-then-same_local
 returns-then-same_local g c = grind (arith, common_steps)
