@@ -11,6 +11,7 @@ use kpn_laws::{determinacy_of, least_room_of, least_solution_of};
 use kpn_machine::{Chronicle, Machine};
 use kpn_net::{End, Kinds, Net, NetFault};
 use kpn_report::{Entries, Tallied, places_of, text_of_entries};
+use kpn_run::starting::RunRequest;
 use kpn_run::{Open, RunFault, run_with_keeper};
 use kpn_state::{Keeper, Packed};
 use std::alloc::{AllocError, Global};
@@ -23,13 +24,6 @@ use std::thread::Threads;
 struct Told {
     status: ExitStatus,
     text: String,
-}
-
-#[derive(Drop)]
-struct RunRequest<B: Body> {
-    net: Net<B::Kinds>,
-    bodies: Vec<B>,
-    workers: usize,
 }
 
 /// Runs a network with 1 to 16 workers and a body for each process, and writes the report, with the stream of

@@ -40,10 +40,25 @@ pub fn execute_standard<S: Sink, R: Wait + Clock + Threads + Sync>(
     let Ok(cards) = cards_of(alloc, &net) else {
         return say_refused(&NetFault::Memory, sink);
     };
-    match make_and_execute(rt, alloc, cards.as_slice(), Some(net), workers, show, sink) {
+    let request = CardsRequest {
+        cards: cards.as_slice(),
+        net: Some(net),
+        workers,
+        show,
+    };
+    match make_and_execute(rt, alloc, request, sink) {
         Ok(status) => status,
         Err(_) => say_refused(&NetFault::Memory, sink),
     }
+}
+
+/// A network that has no bodies yet, with its cards, and how it is to be run and shown.
+#[derive(Drop)]
+struct CardsRequest<'a> {
+    cards: &'a [Card],
+    net: Option<Net<Standard>>,
+    workers: usize,
+    show: Option<&'a str>,
 }
 
 /// Errors: out of memory for a body; nothing is written. Each closure has only the code of its kind, so no
@@ -53,19 +68,22 @@ pub fn execute_standard<S: Sink, R: Wait + Clock + Threads + Sync>(
 fn make_and_execute<S: Sink, R: Wait + Clock + Threads + Sync>(
     rt: &R,
     alloc: Global,
-    cards: &[Card],
-    net: Option<Net<Standard>>,
-    workers: usize,
-    show: Option<&str>,
+    request: CardsRequest<'_>,
     sink: &mut S,
 ) -> Result<u8, AllocError>
-    requires signed { All (λ card. IsSome (signature card)) cards.now }
-    requires cards { IfSome net (λ n. cards.now ≡ cards_of n.processes) }
-    requires some { IsSome net }
-    requires workers { (1 ≤ workers) × (workers ≤ 16) }
-    ensures ok { IfOk result (λ status. IfSome net (λ n. Executes standard n workers (option_map (λ s. s.now) show.entry) (S.seen sink.old) (S.seen sink.new) status)) }
+    requires signed { All (λ card. IsSome (signature card)) request.cards.now }
+    requires cards { IfSome request.net (λ n. request.cards.now ≡ cards_of n.processes) }
+    requires some { IsSome request.net }
+    requires workers { (1 ≤ request.workers) × (request.workers ≤ 16) }
+    ensures ok { IfOk result (λ status. IfSome request.net (λ n. Executes standard n request.workers (option_map (λ s. s.now) request.show) (S.seen sink.old) (S.seen sink.new) status)) }
     ensures err { OnErr result (sink.new ≡ sink.old) }
 {
+    let CardsRequest {
+        cards,
+        net,
+        workers,
+        show,
+    } = request;
     let mut bodies = Vec::new(alloc);
     for process in 0..cards.len() {
         let card = signed_card(cards, process);

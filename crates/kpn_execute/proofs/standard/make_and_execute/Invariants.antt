@@ -5,5 +5,5 @@ use Rattle.kpn_execute.proofs.standard.make_and_execute.Given as goal
 abbrev pub invariant-loop-process : goal.invariant-loop-process
 invariant-loop-process g l = record {
   first : AreFirst (map (λ b. b.card) l.bodies.items) l.cards l.process;
-  same : l.net ≡ l.fn.net;
+  same : l.net ≡ l.fn.request.net;
 }
