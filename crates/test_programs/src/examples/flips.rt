@@ -57,7 +57,7 @@ fn run_with_cards<S: Sink, R: Wait + Clock + Threads + Sync>(
     requires cards { IfSome request.net (λ n. request.cards.now ≡ cards_of n.processes) }
     requires some { IsSome request.net }
     requires workers { (1 ≤ request.workers) × (request.workers ≤ 16) }
-    ensures ok { IfOk result (λ status. IfSome request.net (λ n. Executes flips n request.workers (option_map (λ s. s.now) request.show) (S.seen sink.old) (S.seen sink.new) status)) }
+    ensures ok { IfOk result (λ status. IfSome request.entry.net (λ n. Executes flips n request.entry.workers (option_map (λ s. s.now) request.entry.show) (S.seen sink.old) (S.seen sink.new) status)) }
     ensures err { OnErr result (sink.new ≡ sink.old) }
 {
     let FlipsRequest {
