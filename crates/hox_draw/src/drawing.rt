@@ -1,5 +1,5 @@
 //! Draws the network of a description.
-ghost use Rattle.std.specs.Prelude.{◌≡◌, ◌+◌, false, IfOk, IfErr, Some, string_bytes};
+ghost use Rattle.std.specs.Prelude.{◌+◌, false, IfOk, IfErr, Some, string_bytes};
 ghost use Rattle.kpn_model.specs.Network.{Network as NetworkV};
 ghost use Rattle.kpn_model.specs.Families.{family};
 ghost use Rattle.kpn_front.specs.Loading.{ConsumesAtMost, longest};

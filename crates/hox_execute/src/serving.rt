@@ -1,5 +1,5 @@
 //! Executes the arguments.
-ghost use Rattle.std.specs.Prelude.{◌≡◌, ◌≤◌, IfOk, IfErr, MatchResult, OnErr, map};
+ghost use Rattle.std.specs.Prelude.{◌≡◌, IfOk, IfErr, MatchResult, OnErr, map};
 ghost use Rattle.kpn_front.specs.declared.status.ExitStatus.{ExitStatus as ExitStatusV};
 ghost use Rattle.hox_execute.specs.declared.running.Ran.{Ran as RanV};
 ghost use Rattle.kpn_model.specs.Families.{family};

@@ -1,5 +1,5 @@
 //! The contents of the files of streams.
-ghost use Rattle.std.specs.Prelude.{◌≡◌, ◌++◌, IfOk, map, take};
+ghost use Rattle.std.specs.Prelude.{◌≡◌, IfOk, map};
 ghost use Rattle.std.specs.List.{flat_map};
 ghost use Rattle.kpn_tokens.specs.Records.{record_text};
 ghost use Rattle.kpn_tokens.specs.Tables.{column_of};

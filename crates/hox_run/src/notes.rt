@@ -1,10 +1,8 @@
 //! What a run left unused.
-ghost use Rattle.std.specs.Prelude.{◌≡◌, ◌<◌, ◌-◌, ◌∷◌, [], IfOk, Some, map, length};
-ghost use Rattle.std.specs.List.{count_by, flat_map, list_any, range_with_len};
-ghost use Rattle.kpn_model.specs.Network.{channel_of};
+ghost use Rattle.std.specs.Prelude.{◌≡◌, ◌<◌, ◌-◌, IfOk, Some, length};
 ghost use Rattle.kpn_model.specs.declared.history.Place.TheVariants.{Stopped};
 ghost use Rattle.hox_run.specs.Cuts.{left_at};
-ghost use Rattle.hox_run.specs.Notes.{AreNotes, has_put, is_place_of_stopped, is_put_on, is_source, is_taken_from, source_of, sources_upto, spent, taken_count};
+ghost use Rattle.hox_run.specs.Notes.{AreNotes, has_put, is_place_of_stopped, is_put_on, is_source, is_taken_from, source_of, spent, taken_count};
 
 use crate::cut::left_at;
 use crate::ended::Ended;

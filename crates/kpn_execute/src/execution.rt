@@ -1,5 +1,5 @@
 //! Runs a network and writes the report.
-ghost use Rattle.std.specs.Prelude.{◌≡◌, ◌≢◌, ◌<◌, ◌≤◌, Some, None, IfOk, IfErr, IsSome, map, option_map, string_bytes};
+ghost use Rattle.std.specs.Prelude.{◌≡◌, ◌<◌, ◌≤◌, Some, None, IfOk, IfErr, IsSome, map, option_map, string_bytes};
 ghost use Rattle.kpn_model.specs.Network.{number_of_channel};
 ghost use Rattle.kpn_model.specs.Families.{family};
 ghost use Rattle.kpn_machine.specs.Opening.{cards_of};
