@@ -1,5 +1,5 @@
 //! Reads the tokens of many records at once.
-ghost use Rattle.std.specs.Prelude.{◌≡◌, ◌≤◌, length};
+ghost use Rattle.std.specs.Prelude.{◌≤◌, length};
 ghost use Rattle.hox_stream.specs.Gathering.{Gathers};
 
 use crate::cutting::told_by;

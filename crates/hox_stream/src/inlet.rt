@@ -5,7 +5,6 @@ ghost use Rattle.std.specs.Io.Iter.{u64_saturate};
 ghost use Rattle.std.specs.Io.KnownBytes.{IsAtEnd};
 ghost use Rattle.kpn_tokens.specs.Records.{listed};
 ghost use Rattle.hox_stream.specs.Cutting.{IsNext};
-ghost use Rattle.hox_stream.specs.Gathering.{Gathers};
 ghost use Rattle.hox_stream.specs.Ports.{IsRead, ReadsOn, wants_more};
 
 use crate::cutting::{LONGEST_RECORD, Next, next_of};

@@ -1,5 +1,5 @@
 //! Opens a stream.
-ghost use Rattle.std.specs.Prelude.{◌≡◌, ◌<◌, ◌⊎◌, false, [], Some, IfOk, IfErr, IfSome, length, map, get_or};
+ghost use Rattle.std.specs.Prelude.{◌≡◌, ◌<◌, ◌⊎◌, false, [], Some, IfOk, IfErr, length, map, get_or};
 ghost use Rattle.std.specs.List.{list_any};
 ghost use Rattle.kpn_compute.specs.Both.{both_family, both_named, both_ports};
 ghost use Rattle.kpn_model.specs.Network.{channel_of, number_of_channel};

@@ -4,7 +4,6 @@ ghost use Rattle.kpn_model.specs.Families.{family};
 ghost use Rattle.kpn_flow.specs.Pieces.{IsOneRunInPieces};
 ghost use Rattle.hox_stream.specs.Streams.{AreWritten, StreamsOut, StreamsTo};
 ghost use Rattle.hox_stream.specs.Turns.{GoesOn, PassesTurn, TakesTurn};
-ghost use Rattle.hox_stream.specs.Views.{InletView, OutsView};
 
 use crate::finish::StreamFinish;
 use crate::inlet::{Inlet, wants_more};

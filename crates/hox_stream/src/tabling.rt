@@ -3,7 +3,7 @@ ghost use Rattle.std.specs.Prelude.{◌≡◌, ◌<◌, ℕ, false, IfErr, List,
 ghost use Rattle.kpn_model.specs.Network.{Family};
 ghost use Rattle.kpn_model.specs.Families.{family};
 ghost use Rattle.kpn_flow.specs.Flows.{FlowView};
-ghost use Rattle.hox_stream.specs.Streams.{AllEnd, AllTablesStay, IsFinish, IsOutAt, Streams, TellsTables, table_at};
+ghost use Rattle.hox_stream.specs.Streams.{AllEnd, AllTablesStay, IsFinish, Streams, TellsTables, table_at};
 ghost use Rattle.hox_stream.specs.Tables.{IsTableFault, TellsColumn};
 ghost use Rattle.hox_stream.specs.Views.{InletView, OutletView, TableView, outs};
 

@@ -3,7 +3,7 @@
 //! Whenever the lock is free, the history is a run of the network; an end is justified and final; the book of
 //! entries totals the length of the history; the run has ended if the book of overs is not empty; and the
 //! history and the phase of its end are published.
-ghost use Rattle.std.specs.Prelude.{Bool, ℕ, List, ◌≡◌, ◌≢◌, ◌+◌, ◌^◌, ◌<◌, ◌≤◌, ◌↔◌, [], ◌∷◌, ◌++◌, true, false, length, Some, IfNone, Ok, IfSome, IfOk, IfErr, IsErr, OnOk, OnErr, IsSome, MatchOption, MatchResult};
+ghost use Rattle.std.specs.Prelude.{ℕ, List, ◌≡◌, ◌≢◌, ◌+◌, ◌^◌, ◌<◌, ◌≤◌, ◌↔◌, [], ◌∷◌, ◌++◌, true, false, length, Some, IfNone, Ok, IfSome, IfOk, IsErr, OnErr, IsSome, MatchResult};
 ghost use mathlib.Core.List.{IsPrefix};
 ghost use Rattle.kpn_model.specs.Families.{family};
 ghost use Rattle.std.specs.List.{All, sum_by};
@@ -12,13 +12,13 @@ ghost use Rattle.kpn_model.specs.Semantics.{State};
 ghost use Rattle.kpn_model.specs.Determinacy.{IsRun};
 ghost use Rattle.kpn_watch.specs.declared.progress.Phase.TheVariants.{Running};
 ghost use Rattle.kpn_watch.specs.Phases.{phase_of};
-ghost use Rattle.kpn_monitor.specs.Kept.{IsShown, HasEnded, WasCommitted, WasTaken, WentRounds, FoundNothing};
+ghost use Rattle.kpn_monitor.specs.Kept.{IsShown, HasEnded, WasTaken, WentRounds, FoundNothing};
 ghost use Rattle.kpn_monitor.specs.Hands.{AsksInPlace, CommitsAnswer, Deals, TakesOutAll, GivesBack, Gives, WereCommitted, answers_of};
 ghost use Rattle.kpn_body.specs.Input.{Input};
 ghost use Rattle.kpn_commit.specs.declared.outcome.Outcome.{Outcome as OutcomeV};
-ghost use Rattle.kpn_machine.specs.MachineView.{MachineView, IsFaithful, IsFresh, IsOut, TakesOut};
+ghost use Rattle.kpn_machine.specs.MachineView.{MachineView, IsFaithful, IsFresh, TakesOut};
 ghost use Rattle.kpn_model.specs.Endings.{MayStand};
-ghost use Rattle.kpn_machine.specs.Commits.{Commits, Appends, ContinuesRun, GoesRounds, entries_appended};
+ghost use Rattle.kpn_machine.specs.Commits.{ContinuesRun, GoesRounds, entries_appended};
 
 use crate::giving::give_one;
 use crate::hand::{Hand, Sharing};

@@ -1,5 +1,5 @@
 //! The places of a hand's tasks.
-ghost use Rattle.std.specs.Prelude.{◌≡◌, ◌+◌, ◌<◌, ◌≤◌, ℕ, List, [], ◌∷◌, ◌++◌, Some, true, false, length, take, drop, slice_get, slice_index_or, vec_capacity, IfOk, IfNone, IfSome, IsTrue, ◌↔◌};
+ghost use Rattle.std.specs.Prelude.{◌≡◌, ◌+◌, ◌<◌, ◌≤◌, List, [], ◌∷◌, ◌++◌, Some, true, false, length, take, drop, slice_get, slice_index_or, vec_capacity, IfOk, IfNone, IfSome, IsTrue, ◌↔◌};
 ghost use Rattle.kpn_model.specs.Families.{family};
 ghost use Rattle.kpn_body.specs.Input.{Input};
 ghost use Rattle.kpn_commit.specs.declared.outcome.Outcome.{Outcome as OutcomeV};

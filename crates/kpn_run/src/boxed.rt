@@ -1,5 +1,5 @@
 //! Bodies that stay in place while their tasks move between the machine and the workers.
-ghost use Rattle.std.specs.Prelude.{◌≡◌, ◌≤◌, ◌+◌, ◌++◌, [], length, vec_capacity, true, IfOk, IfErr, IfSome, IfNone};
+ghost use Rattle.std.specs.Prelude.{◌≡◌, ◌≤◌, ◌+◌, ◌++◌, [], length, vec_capacity, true, IfOk, IfErr};
 ghost use Rattle.std.specs.VecDeque.{deque_capacity, deque_len};
 
 use kpn_body::Body;
