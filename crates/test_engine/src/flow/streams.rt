@@ -192,7 +192,7 @@ struct Sampled<'a> {
 }
 
 /// Streams samples of two bytes, the low one first, through the sums.
-fn sampled<R: Abort>(rt: &R, alloc: Global, bytes: &[u8], to: Layout, due: &Sampled<'_>) {
+fn compare_samples<R: Abort>(rt: &R, alloc: Global, bytes: &[u8], to: Layout, due: &Sampled<'_>) {
     let from = samples(Width::Two, Endian::Little, false);
     let mut served = served_of(rt, alloc, bytes, from, to);
     same(rt, "finish", served.finish, due.finish);
@@ -214,27 +214,27 @@ fn sums_come_of_samples(rt: HostRuntime) {
         counts: (3, 3, 0),
         finish: over,
     };
-    sampled(&rt, alloc, SAMPLES, big, &whole);
+    compare_samples(&rt, alloc, SAMPLES, big, &whole);
     let clipped = Sampled {
         written: &[3, 2, 127],
         counts: (3, 3, 1),
         finish: over,
     };
     let to_one_byte = samples(Width::One, Endian::Little, true);
-    sampled(&rt, alloc, SAMPLES, to_one_byte, &clipped);
+    compare_samples(&rt, alloc, SAMPLES, to_one_byte, &clipped);
     let misfit = Sampled {
         written: &[3, 2],
         counts: (3, 2, 0),
         finish: StreamFinish::Misfit(0),
     };
     let narrow = samples(Width::One, Endian::Little, false);
-    sampled(&rt, alloc, SAMPLES, narrow, &misfit);
+    compare_samples(&rt, alloc, SAMPLES, narrow, &misfit);
     let cut_short = Sampled {
         written: &[0, 3, 0, 2],
         counts: (2, 2, 0),
         finish: StreamFinish::Refused(0, Refusal::Fault(RecordFault::CutShort)),
     };
-    sampled(&rt, alloc, &SAMPLES[..5], big, &cut_short);
+    compare_samples(&rt, alloc, &SAMPLES[..5], big, &cut_short);
     same(
         &rt,
         "status",
