@@ -79,7 +79,7 @@ fn channel(
     from: (&str, i64),
     to: (&str, i64),
 ) -> Result<ChannelSketch, AllocError>
-    ensures { IfOk result (λ c. c ≡ channel_sketch name.now from.0.now from.1 to.0.now to.1) }
+    ensures { IfOk result (λ c. c ≡ channel_sketch name.now from.entry.0.now from.entry.1 to.entry.0.now to.entry.1) }
 {
     Ok(ChannelSketch {
         name: text(alloc, name)?,
