@@ -7,9 +7,8 @@ use Rattle.kpn_model.specs.declared.history.Entry.{Entry}
 use Rattle.kpn_model.specs.declared.history.End.{End}
 use Rattle.kpn_model.specs.Network.{Network, resized}
 use Rattle.kpn_model.specs.Semantics.{State}
-use Rattle.kpn_model.specs.Endings.{IsNatural}
-use Rattle.kpn_model.specs.History.{stream}
-use Rattle.kpn_model.specs.Determinacy.{IsPrefixOf, IsFinal}
+use Rattle.kpn_model.specs.Endings.{IsNatural, IsFinal}
+use Rattle.kpn_model.specs.History.{stream, IsPrefixOf}
 use Rattle.kpn_standard.specs.Standard.{standard}
 use Rattle.kpn_laws.specs.Equations.{IsSolution}
 use Rattle.kpn_streams.specs.Functions.{products, merged}

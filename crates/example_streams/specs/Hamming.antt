@@ -6,10 +6,9 @@ use Rattle.kpn_model.specs.declared.token.Token.{Token}
 use Rattle.kpn_model.specs.declared.history.Entry.{Entry}
 use Rattle.kpn_model.specs.declared.history.End.{End}
 use Rattle.kpn_model.specs.Network.{Network, resized}
-use Rattle.kpn_model.specs.Semantics.{State}
-use Rattle.kpn_model.specs.Endings.{IsNatural}
+use Rattle.kpn_model.specs.Semantics.{State, IsRun}
+use Rattle.kpn_model.specs.Endings.{IsNatural, IsFinal}
 use Rattle.kpn_model.specs.History.{stream}
-use Rattle.kpn_model.specs.Determinacy.{IsRun, IsFinal}
 use Rattle.kpn_standard.specs.Standard.{standard}
 use Rattle.kpn_streams.specs.Joined.{Reaches}
 use Rattle.test_laws.specs.Building.{process, sink, take, copy, scale, merge, words, numbers, network}

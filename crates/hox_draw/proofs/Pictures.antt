@@ -5,10 +5,10 @@ use Rattle.kpn_model.specs.declared.history.Entry.{Entry}
 use Rattle.kpn_model.specs.Network.{Family, Network}
 use Rattle.kpn_model.specs.Semantics.{State}
 use Rattle.kpn_model.specs.History.{digest}
-use Rattle.kpn_model.specs.Determinacy.{IsFinal}
+use Rattle.kpn_model.specs.Endings.{IsFinal}
 use Rattle.kpn_report.specs.declared.detail.Detail.{Detail}
 use Rattle.kpn_report.specs.Reported.{IsReport}
-use Rattle.kpn_model.specs.Endings.{has_report}
+use Rattle.kpn_model.specs.texts.Reports.{has_report}
 use Rattle.kpn_run.specs.Reports.{IsEveryRuns}
 use Rattle.kpn_picture.specs.declared.looks.Direction.{Direction}
 use Rattle.hox_draw.specs.Drawing.{digest_picture, report_picture, run_picture}

@@ -3,10 +3,10 @@ use Rattle.std.specs.Prelude.{◌≡◌, ℕ, Bool, true, false, List, [], Optio
 use Rattle.kpn_model.specs.declared.history.Entry.{Entry}
 use Rattle.kpn_model.specs.declared.history.End.{End}
 use Rattle.kpn_model.specs.Network.{Family, Network}
-use Rattle.kpn_model.specs.Semantics.{State}
+use Rattle.kpn_model.specs.Semantics.{State, IsRun}
 use Rattle.kpn_model.specs.History.{Digest, digest}
-use Rattle.kpn_model.specs.Determinacy.{IsRun, IsFinal}
-use Rattle.kpn_model.specs.Endings.{MayEnd, has_report}
+use Rattle.kpn_model.specs.Endings.{IsFinal, MayEnd}
+use Rattle.kpn_model.specs.texts.Reports.{has_report}
 use Rattle.kpn_report.specs.declared.detail.Detail.{Detail}
 use Rattle.kpn_picture.specs.declared.looks.Direction.{Direction}
 use Rattle.kpn_picture.specs.Picture.{picture}

@@ -11,7 +11,8 @@ use Rattle.kpn_model.specs.declared.kinds.Card.{Card}
 use Rattle.kpn_model.specs.declared.parts.Channel.{Channel}
 use Rattle.kpn_model.specs.declared.limits.TheConstants.{CEILING}
 use Rattle.kpn_model.specs.Network.{Network, card_of, channel_of}
-use Rattle.kpn_model.specs.NamesAndLines.{process_name, channel_name, lines_upto}
+use Rattle.kpn_model.specs.texts.Names.{process_name, channel_name}
+use Rattle.kpn_model.specs.texts.Reports.{lines_upto}
 use Rattle.kpn_standard.specs.Locals.{at}
 use Rattle.kpn_picture.specs.Titles.{below}
 

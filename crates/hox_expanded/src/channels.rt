@@ -2,7 +2,7 @@
 ghost use Rattle.std.specs.Prelude.{◌≡◌, ◌++◌, ◌<◌, OnOk, length, string_bytes};
 ghost use Rattle.std.specs.List.{flat_map};
 ghost use Rattle.kpn_model.specs.Network.{channel_of};
-ghost use Rattle.kpn_model.specs.NamesAndLines.{lines_upto};
+ghost use Rattle.kpn_model.specs.texts.Reports.{lines_upto};
 ghost use Rattle.hox_expanded.specs.Description.{capacity_part, channel_line, end_part, ends_part, later_token, name_part, port_part, sort_part, state_part, token_text, tokens_part};
 
 use kpn_model::{Kinds, Sort, Token};

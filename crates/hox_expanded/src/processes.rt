@@ -1,7 +1,7 @@
 //! Processes, a line each.
 ghost use Rattle.std.specs.Prelude.{◌≡◌, ◌++◌, ◌<◌, OnOk, IsSome, length, string_bytes};
 ghost use Rattle.kpn_model.specs.Network.{card_of};
-ghost use Rattle.kpn_model.specs.NamesAndLines.{lines_upto};
+ghost use Rattle.kpn_model.specs.texts.Reports.{lines_upto};
 ghost use Rattle.kpn_picture.specs.Titles.{below, name_of};
 ghost use Rattle.hox_expanded.specs.Description.{argument_text, arguments_part, kind_part, later_argument, process_line};
 

@@ -8,9 +8,10 @@ use Rattle.kpn_model.specs.declared.history.End.TheVariants.{Terminated, Deadloc
 use Rattle.kpn_model.specs.declared.history.Place.{Place}
 use Rattle.kpn_model.specs.Network.{Family, Network}
 use Rattle.kpn_model.specs.Semantics.{State, wants}
-use Rattle.kpn_model.specs.Endings.{IsOver, MayEnd, MayStand, has_report}
+use Rattle.kpn_model.specs.Endings.{IsOver, MayEnd, MayStand, IsFinal}
+use Rattle.kpn_model.specs.texts.Reports.{has_report}
 use Rattle.kpn_model.specs.History.{Digest, digest, each_process, place_of}
-use Rattle.kpn_model.specs.Determinacy.{IsFinal, OneDigest}
+use Rattle.kpn_model.specs.Determinacy.{OneDigest}
 use Rattle.kpn_state.specs.Standings.{standing, parked_answer}
 use Rattle.kpn_machine.specs.MachineView.{MachineView, IsFaithful}
 use Rattle.kpn_run.proofs.RunReports.{at_rest, over_of}

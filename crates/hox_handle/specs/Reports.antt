@@ -2,7 +2,8 @@
 use Rattle.std.specs.Prelude.{◌≡◌, ℕ, Bool, true, false, codes, decimal, List, ◌++◌, length, slice_index_or}
 use Rattle.kpn_model.specs.declared.history.Place.{Place}
 use Rattle.kpn_model.specs.declared.history.Place.TheVariants.{Stopped, Reads, Writes}
-use Rattle.kpn_model.specs.NamesAndLines.{process_name, channel_name, lines_upto}
+use Rattle.kpn_model.specs.texts.Names.{process_name, channel_name}
+use Rattle.kpn_model.specs.texts.Reports.{lines_upto}
 use Rattle.kpn_model.specs.Network.{Family, Network}
 use Rattle.kpn_model.specs.Semantics.{State, tokens, capacity}
 use Rattle.kpn_model.specs.History.{each_process, place_of}

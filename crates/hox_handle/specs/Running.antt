@@ -4,9 +4,9 @@ use Rattle.kpn_sketch.specs.declared.fault.NetFault.{NetFault}
 use Rattle.kpn_model.specs.declared.history.Entry.{Entry}
 use Rattle.kpn_model.specs.declared.history.End.{End}
 use Rattle.kpn_model.specs.Network.{Network}
-use Rattle.kpn_model.specs.Semantics.{State}
-use Rattle.kpn_model.specs.Determinacy.{IsRun, IsFinal}
-use Rattle.kpn_model.specs.Endings.{MayEnd, has_report}
+use Rattle.kpn_model.specs.Semantics.{State, IsRun}
+use Rattle.kpn_model.specs.Endings.{IsFinal, MayEnd}
+use Rattle.kpn_model.specs.texts.Reports.{has_report}
 use Rattle.kpn_laws.specs.RoomOfRun.{TakesLeastRoom}
 use Rattle.kpn_laws.specs.StreamsOfRun.{ApproachLeastSolution}
 use Rattle.kpn_report.specs.Text.{report_text}

@@ -1,6 +1,6 @@
 //! Reports how a flow stands.
 ghost use Rattle.std.specs.Prelude.{◌≡◌, ◌++◌, ◌<◌, IfOk, OnOk, length, string_bytes};
-ghost use Rattle.kpn_model.specs.NamesAndLines.{lines_upto};
+ghost use Rattle.kpn_model.specs.texts.Reports.{lines_upto};
 ghost use Rattle.kpn_state.specs.Standings.{is_busy, standing};
 ghost use Rattle.hox_handle.specs.Reports.{channel_line, count_line, process_line, stand_line, TellsStand};
 ghost use Rattle.hox_handle.specs.Sessions.{flow_kinds};

@@ -7,7 +7,7 @@ use Rattle.kpn_model.specs.declared.token.Token.{Token}
 use Rattle.kpn_model.specs.declared.kinds.Card.{Card}
 use Rattle.kpn_model.specs.declared.kinds.Signature.{Signature}
 use Rattle.kpn_model.specs.declared.parts.Channel.{Channel}
-use Rattle.kpn_model.specs.Name.{is_name}
+use Rattle.kpn_model.specs.texts.NameForm.{is_name}
 use Rattle.kpn_model.specs.Network.{Network, no_channel, channel_of}
 use Rattle.kpn_model.specs.Valid.{HasEnds, IsOfSort, IsValid, JustOne}
 use Rattle.hox_network.specs.Presets.{holding, with_tokens}

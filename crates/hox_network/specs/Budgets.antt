@@ -3,7 +3,7 @@ use Rattle.std.specs.Prelude.{ℕ, pos, Bool, false, codes, List, is_some, if◌
 use Rattle.std.specs.Option.{option_map_or}
 use Rattle.toml.specs.Data.{Members, get_member}
 use Rattle.toml.specs.Parse.{parse_document}
-use Rattle.kpn_model.specs.Version.{greatest_budget_in}
+use Rattle.kpn_model.specs.texts.Version.{greatest_budget_in}
 use Rattle.kpn_sketch.specs.declared.sketch.Sketch.{Sketch}
 
 abbrev pub has_budget : Members → Bool

@@ -11,9 +11,9 @@ use Rattle.kpn_model.specs.declared.history.Place.{Place}
 use Rattle.kpn_model.specs.declared.verdict.Verdict.{Verdict}
 use Rattle.kpn_model.specs.declared.verdict.Verdict.TheVariants.{RanDry, Cut, Full}
 use Rattle.kpn_model.specs.Network.{Family, Network, channel_of}
-use Rattle.kpn_model.specs.Semantics.{State}
-use Rattle.kpn_model.specs.Endings.{IsOver, has_report}
-use Rattle.kpn_model.specs.Determinacy.{IsRun}
+use Rattle.kpn_model.specs.Semantics.{State, IsRun}
+use Rattle.kpn_model.specs.Endings.{IsOver}
+use Rattle.kpn_model.specs.texts.Reports.{has_report}
 use Rattle.kpn_state.specs.declared.standing.Standing.{Standing}
 use Rattle.kpn_state.specs.Standings.{standing, is_busy}
 use Rattle.kpn_state.proofs.Placed.{idle_at}

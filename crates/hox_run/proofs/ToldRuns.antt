@@ -11,9 +11,10 @@ use Rattle.kpn_model.specs.declared.verdict.Verdict.{Verdict}
 use Rattle.kpn_model.specs.declared.kinds.Card.{Card}
 use Rattle.kpn_model.specs.Network.{Family, Network}
 use Rattle.kpn_model.specs.Semantics.{State, start}
-use Rattle.kpn_model.specs.Endings.{IsOver, has_report}
+use Rattle.kpn_model.specs.Endings.{IsOver, IsFinal}
+use Rattle.kpn_model.specs.texts.Reports.{has_report}
 use Rattle.kpn_model.specs.History.{Digest, digest, each_channel, each_process, place_of, stream}
-use Rattle.kpn_model.specs.Determinacy.{AllPrefixComparable, IsFinal, OneDigest}
+use Rattle.kpn_model.specs.Determinacy.{AllPrefixComparable, OneDigest}
 use Rattle.kpn_state.specs.Standings.{standing, parked_answer}
 use Rattle.kpn_machine.specs.MachineView.{MachineView, IsFaithful}
 use Rattle.kpn_laws.specs.RoomOfRun.{TakesLeastRoom}

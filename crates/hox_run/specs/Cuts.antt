@@ -8,7 +8,8 @@ use Rattle.kpn_model.specs.declared.history.End.TheVariants.{Budget, Memory}
 use Rattle.kpn_model.specs.declared.history.Place.{Place}
 use Rattle.kpn_model.specs.declared.history.Place.TheVariants.{Stopped}
 use Rattle.kpn_model.specs.Network.{Family, Network}
-use Rattle.kpn_model.specs.NamesAndLines.{process_name, channel_name, lines_upto}
+use Rattle.kpn_model.specs.texts.Names.{process_name, channel_name}
+use Rattle.kpn_model.specs.texts.Reports.{lines_upto}
 use Rattle.kpn_model.specs.Semantics.{State, wants, IsEnabled}
 use Rattle.kpn_model.specs.History.{each_channel, place_of, stream}
 use Rattle.kpn_state.specs.declared.standing.Standing.{Standing}

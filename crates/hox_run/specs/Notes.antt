@@ -8,7 +8,7 @@ use Rattle.kpn_model.specs.declared.history.Place.{Place}
 use Rattle.kpn_model.specs.declared.history.Place.TheVariants.{Stopped}
 use Rattle.kpn_model.specs.declared.verdict.Verdict.{Verdict}
 use Rattle.kpn_model.specs.declared.verdict.Verdict.TheVariants.{Cut}
-use Rattle.kpn_model.specs.NamesAndLines.{channel_name}
+use Rattle.kpn_model.specs.texts.Names.{channel_name}
 use Rattle.kpn_model.specs.Network.{Network, channel_of}
 use Rattle.hox_run.specs.declared.notes.Notes.{Notes}
 use Rattle.hox_run.specs.declared.notes.SourceNote.{SourceNote}

@@ -10,10 +10,10 @@ use Rattle.kpn_model.specs.declared.history.Place.{Place}
 use Rattle.kpn_model.specs.declared.verdict.Verdict.{Verdict}
 use Rattle.kpn_model.specs.declared.verdict.Verdict.TheVariants.{Finished, RanDry, Cycle, Cut, Full, Memory}
 use Rattle.kpn_model.specs.Network.{Family, Network}
-use Rattle.kpn_model.specs.Semantics.{State, wants}
+use Rattle.kpn_model.specs.Semantics.{State, wants, IsRun}
 use Rattle.kpn_model.specs.History.{each_process, place_of, stream}
-use Rattle.kpn_model.specs.Determinacy.{IsRun, IsFinal}
-use Rattle.kpn_model.specs.Endings.{MayEnd, has_report}
+use Rattle.kpn_model.specs.Endings.{IsFinal, MayEnd}
+use Rattle.kpn_model.specs.texts.Reports.{has_report}
 use Rattle.kpn_laws.specs.RoomOfRun.{TakesLeastRoom}
 use Rattle.kpn_laws.specs.StreamsOfRun.{ApproachLeastSolution}
 use Rattle.kpn_run.specs.Runs.{IsComparable}

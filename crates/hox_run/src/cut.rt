@@ -1,6 +1,6 @@
 //! Reports on a run that was cut: where it left each process, and the streams so far.
 ghost use Rattle.std.specs.Prelude.{◌≡◌, ◌++◌, ◌<◌, OnOk, length, string_bytes};
-ghost use Rattle.kpn_model.specs.NamesAndLines.{lines_upto};
+ghost use Rattle.kpn_model.specs.texts.Reports.{lines_upto};
 ghost use Rattle.hox_run.specs.Cuts.{after_verdict, left_at, left_line, left_text};
 
 use crate::ended::Ended;

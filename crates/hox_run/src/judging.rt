@@ -2,7 +2,7 @@
 ghost use Rattle.std.specs.Prelude.{◌≡◌, ◌++◌, true, None, IfOk, OnOk, string_bytes};
 ghost use Rattle.kpn_model.specs.Network.{Family};
 ghost use Rattle.kpn_model.specs.Semantics.{State};
-ghost use Rattle.kpn_model.specs.Endings.{has_report};
+ghost use Rattle.kpn_model.specs.texts.Reports.{has_report};
 ghost use Rattle.kpn_dry.specs.Told.{is_told_dry};
 ghost use Rattle.kpn_report.specs.Text.{report_text};
 ghost use Rattle.kpn_verdict.specs.VerdictText.{verdict_line};

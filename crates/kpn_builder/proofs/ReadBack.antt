@@ -10,7 +10,7 @@ use Rattle.toml.specs.View.{items_of}
 use Rattle.toml.specs.Parse.{parse_document}
 use Rattle.kpn_model.specs.declared.token.Sort.{Sort}
 use Rattle.kpn_model.specs.declared.token.Sort.TheVariants.{Words, Flags}
-use Rattle.kpn_model.specs.Version.{is_two}
+use Rattle.kpn_model.specs.texts.Version.{is_two}
 use Rattle.kpn_sketch.specs.declared.sketch.TokenSketch.{TokenSketch}
 use Rattle.kpn_sketch.specs.declared.sketch.TokenSketch.TheVariants.{Integer, Boolean, Word}
 use Rattle.kpn_sketch.specs.declared.sketch.ProcessSketch.{ProcessSketch}

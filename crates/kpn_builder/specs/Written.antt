@@ -6,7 +6,7 @@ use Rattle.std.specs.Ordering.{int_eq, nat_cmp, match_ordering}
 use Rattle.std.specs.Cmp.Lexicographic.{slice_cmp}
 use Rattle.toml.specs.Data.{Data, string, integer, boolean, array, table, Members, no_members, member}
 use Rattle.toml.specs.View.{items_of}
-use Rattle.kpn_model.specs.Version.{is_two}
+use Rattle.kpn_model.specs.texts.Version.{is_two}
 use Rattle.kpn_model.specs.declared.token.Sort.{Sort}
 use Rattle.kpn_model.specs.declared.token.Sort.TheVariants.{Words, Flags}
 use Rattle.kpn_sketch.specs.declared.sketch.TokenSketch.{TokenSketch}

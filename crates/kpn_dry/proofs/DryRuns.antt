@@ -8,9 +8,8 @@ use Rattle.kpn_model.specs.declared.history.Deed.TheVariants.{Took, Put, Stopped
 use Rattle.kpn_model.specs.declared.history.Entry.{Entry}
 use Rattle.kpn_model.specs.declared.history.Status.TheVariants.{Done}
 use Rattle.kpn_model.specs.Network.{Family, Network, channel_of, in_of, resized}
-use Rattle.kpn_model.specs.Semantics.{State, answered, start, status, tokens, wants}
-use Rattle.kpn_model.specs.History.{deeds, put_on, stream}
-use Rattle.kpn_model.specs.Determinacy.{ArePrefixComparable, IsPrefixOf, IsRun}
+use Rattle.kpn_model.specs.Semantics.{State, answered, start, status, tokens, wants, IsRun}
+use Rattle.kpn_model.specs.History.{deeds, put_on, stream, ArePrefixComparable, IsPrefixOf}
 use Rattle.kpn_laws.specs.Alone.{puts, took}
 use Rattle.kpn_laws.proofs.Lists.{prefix-length, prefix_cases}
 use Rattle.kpn_laws.proofs.Views.{deeds-append, puts_prefix}

@@ -1,7 +1,8 @@
 -- The line that names the processes that are not dry.
 use Rattle.std.specs.Prelude.{ℕ, Bool, codes, if◌then◌else◌, List, [], ◌++◌, length}
 use Rattle.kpn_model.specs.Network.{Network}
-use Rattle.kpn_model.specs.NamesAndLines.{process_name, lines_upto}
+use Rattle.kpn_model.specs.texts.Names.{process_name}
+use Rattle.kpn_model.specs.texts.Reports.{lines_upto}
 
 module _ (net : Network) (dry : ℕ → Bool) where
   abbrev pub active_name : ℕ → List ℕ

@@ -5,9 +5,8 @@ use Rattle.kpn_model.specs.declared.kinds.Answer.{Answer}
 use Rattle.kpn_model.specs.declared.history.Entry.{Entry}
 use Rattle.kpn_model.specs.declared.history.Status.TheVariants.{Done}
 use Rattle.kpn_model.specs.Network.{Family, Network, channel_of, in_of, resized}
-use Rattle.kpn_model.specs.Semantics.{State, status, tokens, wants}
-use Rattle.kpn_model.specs.History.{deeds, stream}
-use Rattle.kpn_model.specs.Determinacy.{IsPrefixOf, IsRun}
+use Rattle.kpn_model.specs.Semantics.{State, status, tokens, wants, IsRun}
+use Rattle.kpn_model.specs.History.{deeds, stream, IsPrefixOf}
 
 -- a process has stopped, or waits to read an empty channel whose writer is dry. No process of a cycle of waits is dry
 pub data IsDry (kinds : Family) (net : Network) (M : State) : ℕ → Type 0 where

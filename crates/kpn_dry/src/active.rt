@@ -1,6 +1,6 @@
 //! Which processes could go on, as text.
 ghost use Rattle.std.specs.Prelude.{◌≡◌, ◌++◌, ◌<◌, OnOk, length, string_bytes};
-ghost use Rattle.kpn_model.specs.NamesAndLines.{lines_upto};
+ghost use Rattle.kpn_model.specs.texts.Reports.{lines_upto};
 ghost use Rattle.kpn_dry.specs.ActiveLine.{active_line, active_name};
 ghost use Rattle.kpn_dry.specs.Told.{is_told_dry};
 

@@ -3,9 +3,8 @@ use Rattle.std.proofs.Common.{◌≡◌, List, [], ◌∷◌, ◌++◌, append-n
 use Rattle.kpn_model.specs.declared.token.Token.{Token}
 use Rattle.kpn_model.specs.declared.parts.Channel.{Channel}
 use Rattle.kpn_model.specs.Network.{Network, Family, channel_of, resize, resized}
-use Rattle.kpn_model.specs.Semantics.{State, tokens}
-use Rattle.kpn_model.specs.History.{put_on, stream}
-use Rattle.kpn_model.specs.Determinacy.{IsRun, ArePrefixComparable}
+use Rattle.kpn_model.specs.Semantics.{State, tokens, IsRun}
+use Rattle.kpn_model.specs.History.{put_on, stream, ArePrefixComparable}
 use Rattle.kpn_laws.proofs.Outcomes.{all_comparable}
 use Rattle.kpn_flow.specs.Events.{Event, entries_of, drained}
 use Rattle.kpn_flow.specs.Flows.{AreEnds}

@@ -9,9 +9,8 @@ use Rattle.kpn_model.specs.declared.kinds.Answer.{Answer}
 use Rattle.kpn_model.specs.declared.history.Entry.{Entry}
 use Rattle.kpn_model.specs.declared.history.Status.{Status}
 use Rattle.kpn_model.specs.Network.{Network, Family, channel_of, in_of, out_of}
-use Rattle.kpn_model.specs.Semantics.{State, status, tokens, capacity, wants, answered, start, Run, IsQuiet, IsBlocked, IsPossible}
-use Rattle.kpn_model.specs.History.{deeds, put_on, stream}
-use Rattle.kpn_model.specs.Determinacy.{IsPrefixOf, IsRun}
+use Rattle.kpn_model.specs.Semantics.{State, status, tokens, capacity, wants, answered, start, Run, IsQuiet, IsBlocked, IsPossible, IsRun}
+use Rattle.kpn_model.specs.History.{deeds, put_on, stream, IsPrefixOf}
 use Rattle.kpn_laws.specs.Alone.{puts}
 use Rattle.kpn_laws.proofs.Lists.{same_from_prefixes}
 use Rattle.kpn_laws.proofs.Follows.{status_by}

@@ -9,7 +9,7 @@ use Rattle.kpn_model.specs.declared.history.Deed.TheVariants.{Took, Put, Stopped
 use Rattle.kpn_model.specs.declared.history.Status.{Status}
 use Rattle.kpn_model.specs.Network.{Network, Family, channel_of}
 use Rattle.kpn_model.specs.Semantics.{State, status, tokens, start}
-use Rattle.kpn_model.specs.Determinacy.{IsPrefixOf}
+use Rattle.kpn_model.specs.History.{IsPrefixOf}
 use Rattle.kpn_laws.specs.Alone.{Streams, BeginsWith, puts, after_answer, IsDeedAlone, GoesOnAlone, DoesAlone}
 use Rattle.kpn_laws.specs.Equations.{written, Obeys}
 use Rattle.kpn_laws.proofs.Sequences.{begins_shorter, by_first_parts}

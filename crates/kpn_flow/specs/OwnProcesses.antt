@@ -4,7 +4,7 @@ use Rattle.kpn_model.specs.declared.token.Token.{Token}
 use Rattle.kpn_model.specs.declared.history.Deed.{Deed}
 use Rattle.kpn_model.specs.Network.{Family, Network, channel_of}
 use Rattle.kpn_model.specs.Semantics.{State, tokens, start}
-use Rattle.kpn_model.specs.Determinacy.{IsPrefixOf}
+use Rattle.kpn_model.specs.History.{IsPrefixOf}
 use Rattle.kpn_laws.specs.Alone.{Streams, BeginsWith, DoesAlone}
 use Rattle.kpn_laws.specs.Equations.{written}
 use Rattle.kpn_flow.specs.Events.{Event, Flows, fed, drained}

@@ -3,8 +3,7 @@ use Rattle.std.specs.Prelude.{◌≡◌, ℕ, ◌+◌, ◌<◌, ◌≤◌, true,
 use Rattle.kpn_model.specs.declared.token.Token.{Token}
 use Rattle.kpn_model.specs.Network.{Family, Network, channel_of}
 use Rattle.kpn_model.specs.Semantics.{State, status, tokens, start, IsQuiet, IsBlocked}
-use Rattle.kpn_model.specs.History.{put_on, stream}
-use Rattle.kpn_model.specs.Determinacy.{ArePrefixComparable}
+use Rattle.kpn_model.specs.History.{put_on, stream, ArePrefixComparable}
 use Rattle.kpn_laws.specs.StreamsOfRun.{ApproachLeastSolution}
 use Rattle.kpn_flow.specs.Events.{Event, Flows, entries_of, fed, drained}
 use Rattle.kpn_flow.specs.Preloaded.{IsAtEnds, preloaded, without_growths, all_fed, IsOneRun}

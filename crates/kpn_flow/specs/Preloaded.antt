@@ -6,9 +6,8 @@ use Rattle.kpn_model.specs.declared.kinds.Act.TheVariants.{Stop}
 use Rattle.kpn_model.specs.declared.history.Entry.{Entry}
 use Rattle.kpn_model.specs.declared.history.Entry.TheVariants.{Did, Grew}
 use Rattle.kpn_model.specs.Network.{Family, Network, card_of, channel_of}
-use Rattle.kpn_model.specs.Semantics.{State, tokens, start}
+use Rattle.kpn_model.specs.Semantics.{State, tokens, start, IsRun}
 use Rattle.kpn_model.specs.History.{put_on}
-use Rattle.kpn_model.specs.Determinacy.{IsRun}
 use Rattle.kpn_flow.specs.Events.{Event, Went, Fed, Drained, Flows, entries_of, fed, drained}
 
 -- the channels with more start tokens and other capacities

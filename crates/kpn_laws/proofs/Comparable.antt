@@ -1,11 +1,10 @@
 -- The deeds of a process in any two runs are prefix-comparable.
 use Rattle.std.proofs.Common.{◌≡◌, inl, ⊎_elim, List, [], ◌∷◌, ◌++◌, refl, sym, ℕ, subst, ne_eqb}
 use Rattle.std.proofs.lemmas.Bool.{cases_eq}
-use Rattle.kpn_model.specs.Determinacy.{ArePrefixComparable}
+use Rattle.kpn_model.specs.History.{ArePrefixComparable, deeds}
 use Rattle.kpn_model.specs.declared.history.Deed.{Deed}
 use Rattle.kpn_model.specs.declared.history.Entry.{Entry}
 use Rattle.kpn_model.specs.declared.history.Entry.TheVariants.{Did, Grew}
-use Rattle.kpn_model.specs.History.{deeds}
 use Rattle.kpn_model.specs.Network.{Network, Family}
 use Rattle.kpn_model.specs.Semantics.{State, Transition, Run}
 use Rattle.kpn_laws.proofs.Lists.{comparable_push}

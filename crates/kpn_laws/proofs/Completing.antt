@@ -1,11 +1,10 @@
 -- If a network can come to its end with capacities of at most b, each run does; if it can go on for ever, each can.
 use Rattle.std.proofs.Common.{◌≤◌, ◌<◌, ◌⊎◌, inl, inr, ⊎_elim, List, [], ◌∷◌, ◌++◌, length, refl, arith, ℕ, ◌+◌, ◌*◌, zero, suc, length-append}
-use Rattle.kpn_model.specs.Determinacy.{IsRun}
+use Rattle.kpn_model.specs.Semantics.{IsRun, State, start, Run}
 use Rattle.kpn_model.specs.declared.history.Entry.{Entry}
 use Rattle.kpn_model.specs.declared.history.End.{End}
 use Rattle.kpn_model.specs.declared.history.End.TheVariants.{Terminated, Deadlock, Ceiling, Budget, Memory}
 use Rattle.kpn_model.specs.Network.{Network, Family, resized}
-use Rattle.kpn_model.specs.Semantics.{State, start, Run}
 use Rattle.kpn_model.specs.Endings.{IsOver}
 use Rattle.kpn_laws.specs.Sufficient.{EndsWithin, LastsWithin, Suffices}
 use Rattle.kpn_laws.specs.Completion.{CanGoOn, IsAtOwnEnd, IsAbove, FewEntries, Completes, HasEnd, NeverEnds}

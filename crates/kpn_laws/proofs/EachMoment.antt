@@ -7,12 +7,11 @@ use Rattle.kpn_model.specs.declared.history.Entry.{Entry}
 use Rattle.kpn_model.specs.History.{taken, growths, grown, stream}
 use Rattle.kpn_model.specs.declared.parts.Channel.{Channel}
 use Rattle.kpn_model.specs.Network.{Network, no_channel, channel_of, Family}
-use Rattle.kpn_model.specs.Semantics.{State, nothing_held, tokens, capacity, wants, IsDeed, after_deed, start, IsPossible, Does}
+use Rattle.kpn_model.specs.Semantics.{State, nothing_held, tokens, capacity, wants, IsDeed, after_deed, start, IsPossible, Does, IsRun}
 use Rattle.kpn_model.specs.declared.kinds.Act.{Act}
 use Rattle.kpn_model.specs.declared.kinds.Act.TheVariants.{Read, Write, Stop}
 use Rattle.kpn_model.specs.declared.kinds.Answer.{Answer}
 use Rattle.kpn_model.specs.declared.history.End.TheVariants.{Budget}
-use Rattle.kpn_model.specs.Determinacy.{IsRun}
 use Rattle.kpn_model.specs.Moments.{OneState, PrefixesAreRuns, HistoryTellsState, BudgetSuffices, EnabledCanDo, OneCause}
 use Rattle.kpn_model.specs.Endings.{MayEnd}
 use Rattle.kpn_laws.proofs.Runs.{run_one, run_split}

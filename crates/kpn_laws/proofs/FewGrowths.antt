@@ -1,12 +1,11 @@
 -- If capacity b suffices, there are at most b growths times the number of channels.
 use Rattle.std.proofs.Common.{◌≡◌, ◌≤◌, ◌<◌, ⊎_elim, List, [], ◌∷◌, ◌++◌, length, sym, ap, ◌∙◌, arith, ℕ, ◌+◌, ◌*◌, zero, suc, subst, min, length-append}
 use Rattle.std.proofs.lemmas.Bool.{cases_eq}
-use Rattle.kpn_model.specs.Determinacy.{IsRun}
+use Rattle.kpn_model.specs.Semantics.{IsRun, State, tokens, capacity, with_channel, start, Transition, Grows}
 use Rattle.kpn_model.specs.declared.history.Entry.{Entry}
 use Rattle.kpn_model.specs.declared.history.Entry.TheVariants.{Did, Grew}
 use Rattle.kpn_model.specs.History.{growths}
 use Rattle.kpn_model.specs.Network.{Network, Family}
-use Rattle.kpn_model.specs.Semantics.{State, tokens, capacity, with_channel, start, Transition, Grows}
 use Rattle.kpn_laws.specs.Sufficient.{Suffices}
 use Rattle.kpn_laws.specs.LeastRoom.{FewGrowths}
 use Rattle.kpn_laws.proofs.Views.{growths_push_did, growths_push_grew}

@@ -1,6 +1,6 @@
 -- What a process does next is determined by what it has done and by what was put for it.
 use Rattle.std.proofs.Common.{◌≡◌, List, [], ◌∷◌, ◌++◌, refl, sym, ap, ◌∙◌, append_assoc, ℕ, Some, Option, subst}
-use Rattle.kpn_model.specs.Determinacy.{IsPrefixOf, ArePrefixComparable}
+use Rattle.kpn_model.specs.History.{IsPrefixOf, ArePrefixComparable}
 use Rattle.kpn_model.specs.declared.token.Token.{Token}
 use Rattle.kpn_model.specs.declared.history.Deed.{Deed}
 use Rattle.kpn_model.specs.declared.history.Deed.TheVariants.{Took, Put, Stopped}

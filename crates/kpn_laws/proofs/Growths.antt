@@ -1,9 +1,8 @@
 -- The growths of any run are a prefix of those of a run that is over.
 use Rattle.std.proofs.Common.{◌≡◌, ⊎_elim, List, [], ◌∷◌, ◌++◌, refl, sym, ap, ◌∙◌, ℕ, subst, min, ◌+◌}
-use Rattle.kpn_model.specs.Determinacy.{IsPrefixOf}
+use Rattle.kpn_model.specs.History.{IsPrefixOf, growths}
 use Rattle.kpn_model.specs.declared.history.Entry.{Entry}
 use Rattle.kpn_model.specs.declared.history.Entry.TheVariants.{Did, Grew}
-use Rattle.kpn_model.specs.History.{growths}
 use Rattle.kpn_model.specs.Network.{Network, Family}
 use Rattle.kpn_model.specs.Semantics.{State, capacity, Transition, Run, Grows}
 use Rattle.kpn_model.specs.Endings.{IsOver}

@@ -1,10 +1,9 @@
 -- The invariant of every run: how its start, its history and its state belong together.
 use Rattle.std.proofs.Common.{◌≡◌, ◌≤◌, List, [], ◌∷◌, ◌++◌, length, refl, sym, ◌∙◌, arith, append-nil, ℕ, get_or, suc, zero, map}
 use Rattle.std.proofs.lemmas.List.{length-map}
-use Rattle.kpn_model.specs.Determinacy.{IsPrefixOf}
+use Rattle.kpn_model.specs.History.{IsPrefixOf, deeds, growths, grown}
 use Rattle.kpn_model.specs.declared.history.Deed.{Deed}
 use Rattle.kpn_model.specs.declared.history.Entry.{Entry}
-use Rattle.kpn_model.specs.History.{deeds, growths, grown}
 use Rattle.kpn_model.specs.declared.parts.Channel.{Channel}
 use Rattle.kpn_model.specs.Network.{Network, no_channel, channel_of, Family}
 use Rattle.kpn_model.specs.Semantics.{State, nothing_held, status, tokens, capacity, start}

@@ -1,10 +1,9 @@
 -- A growth keeps the invariant of every run.
 use Rattle.std.proofs.Common.{◌≡◌, ◌≤◌, ⊎_elim, List, [], ◌∷◌, ◌++◌, length, sym, ap, ◌∙◌, arith, ℕ, ◌==◌, if◌then◌else◌, eq-eqb, ◌<◌, length-set, subst, ne_eqb}
 use Rattle.std.proofs.lemmas.Bool.{cases_eq}
-use Rattle.kpn_model.specs.Determinacy.{IsPrefixOf}
+use Rattle.kpn_model.specs.History.{IsPrefixOf, deeds, growths, grown}
 use Rattle.kpn_model.specs.declared.history.Entry.{Entry}
 use Rattle.kpn_model.specs.declared.history.Entry.TheVariants.{Grew}
-use Rattle.kpn_model.specs.History.{deeds, growths, grown}
 use Rattle.kpn_model.specs.Network.{Network, channel_of, Family}
 use Rattle.kpn_model.specs.Semantics.{State, tokens, capacity, with_channel, IsBlocked}
 use Rattle.kpn_laws.proofs.Lists.{prefix_push_cases}

@@ -1,12 +1,11 @@
 -- Growth of the smallest full channel takes, but for the step, no more room than any capacities that suffice.
 use Rattle.std.proofs.Common.{◌≡◌, ◌≤◌, ◌<◌, ◌⊎◌, inl, inr, ⊎_elim, List, [], ◌∷◌, length, sym, ap, ◌∙◌, arith, append-nil, ℕ, ◌+◌, Some, subst}
 use Rattle.std.proofs.lemmas.Bool.{cases_lt, cases_eq}
-use Rattle.kpn_model.specs.Determinacy.{IsPrefixOf, IsRun}
+use Rattle.kpn_model.specs.History.{IsPrefixOf, deeds, growths}
+use Rattle.kpn_model.specs.Semantics.{IsRun, State, tokens, capacity, answered, wants, with_channel, start, Transition, Run, Grows, IsPossible, IsBlocked, IsQuiet, IsArtificial, IsChosen}
 use Rattle.kpn_model.specs.declared.history.Entry.{Entry}
 use Rattle.kpn_model.specs.declared.history.Entry.TheVariants.{Did, Grew}
-use Rattle.kpn_model.specs.History.{deeds, growths}
 use Rattle.kpn_model.specs.Network.{Network, channel_of, Family, resized}
-use Rattle.kpn_model.specs.Semantics.{State, tokens, capacity, answered, wants, with_channel, start, Transition, Run, Grows, IsPossible, IsBlocked, IsQuiet, IsArtificial, IsChosen}
 use Rattle.kpn_laws.specs.Sufficient.{IsBoundedBy, EndsWithin, LastsWithin, Suffices}
 use Rattle.kpn_laws.specs.LeastRoom.{IsDominated, Dominates, ChosenHasFewer, GrowsBelow, StaysBelow, CeilingSuffices, LeastPossible}
 use Rattle.kpn_laws.proofs.Lists.{same_from_prefixes, prefix-length}

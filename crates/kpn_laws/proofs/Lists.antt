@@ -1,7 +1,7 @@
 -- Lists of which one begins with the other.
 use Rattle.std.proofs.Common.{◌≡◌, ◌⊎◌, ◌≤◌, inl, inr, ⊎_elim, List, [], ◌∷◌, ◌++◌, length, refl, sym, ap, ◌∙◌, arith, append_assoc, append-nil, length-append}
 use Rattle.std.proofs.lemmas.List.{append_cancel_left}
-use Rattle.kpn_model.specs.Determinacy.{IsPrefixOf, ArePrefixComparable}
+use Rattle.kpn_model.specs.History.{IsPrefixOf, ArePrefixComparable}
 
 -- what is appended to a list without changing it is empty
 nil_of_self : {X : Type 0} (xs r : List X) → xs ++ r ≡ xs → r ≡ []

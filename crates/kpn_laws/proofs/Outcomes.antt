@@ -1,11 +1,11 @@
 -- Whatever the starting capacities: one outcome, and all runs are prefix-comparable.
 use Rattle.std.proofs.Common.{◌≡◌, List, ◌++◌, sym, ap, ◌∙◌, ℕ, subst}
-use Rattle.kpn_model.specs.Determinacy.{IsPrefixOf, ArePrefixComparable, AreAllPrefixComparable, IsRun, IsFinal, AgreeInTheEnd, OneOutcome, AllPrefixComparable}
-use Rattle.kpn_model.specs.Endings.{IsNatural}
+use Rattle.kpn_model.specs.History.{IsPrefixOf, ArePrefixComparable, deeds, put_on, stream, place_of}
+use Rattle.kpn_model.specs.Determinacy.{AreAllPrefixComparable, AgreeInTheEnd, OneOutcome, AllPrefixComparable}
+use Rattle.kpn_model.specs.Semantics.{IsRun, State, status, answered, wants, start, Run, IsBlocked, IsQuiet}
+use Rattle.kpn_model.specs.Endings.{IsFinal, IsNatural}
 use Rattle.kpn_model.specs.declared.history.Entry.{Entry}
-use Rattle.kpn_model.specs.History.{deeds, put_on, stream, place_of}
 use Rattle.kpn_model.specs.Network.{Network, channel_of, Family, resized}
-use Rattle.kpn_model.specs.Semantics.{State, status, answered, wants, start, Run, IsBlocked, IsQuiet}
 use Rattle.kpn_model.specs.declared.history.End.{End}
 use Rattle.kpn_laws.proofs.Lists.{same_from_prefixes, comparable_after}
 use Rattle.kpn_laws.specs.Alone.{puts}

@@ -4,8 +4,7 @@ use Rattle.std.specs.List.{prefix_len}
 use Rattle.kpn_model.specs.declared.history.Entry.{Entry}
 use Rattle.kpn_model.specs.declared.parts.Channel.{Channel}
 use Rattle.kpn_model.specs.Network.{Network, no_channel, Family, resize, resized}
-use Rattle.kpn_model.specs.Semantics.{State, start, Run}
-use Rattle.kpn_model.specs.Determinacy.{IsRun}
+use Rattle.kpn_model.specs.Semantics.{State, start, Run, IsRun}
 use Rattle.kpn_laws.proofs.Kept.{IsFresh, fresh_start}
 use Rattle.kpn_laws.proofs.Wiring.{AreWiredAlike, run_alike}
 

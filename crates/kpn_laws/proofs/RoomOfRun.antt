@@ -1,6 +1,6 @@
 -- Every run takes the least room.
 use Rattle.std.proofs.Common.{subst}
-use Rattle.kpn_model.specs.Determinacy.{IsRun}
+use Rattle.kpn_model.specs.Semantics.{IsRun}
 use Rattle.kpn_model.specs.Network.{Family}
 use Rattle.kpn_laws.specs.RoomOfRun.{EachTakesLeastRoom}
 use Rattle.kpn_laws.proofs.LeastRoom.{grows_below, stays_below, ceiling_suffices}

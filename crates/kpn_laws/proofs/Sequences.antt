@@ -2,7 +2,7 @@
 use Rattle.std.proofs.Common.{◌≡◌, List, [], ◌∷◌, ◌++◌, length, refl, sym, ap, ◌∙◌, append_assoc, append-nil, ℕ, suc, zero, Some, Option, slice_get, subst}
 use Rattle.std.proofs.lemmas.Option.{same_Some}
 use Rattle.kpn_model.specs.declared.token.Token.{Token}
-use Rattle.kpn_model.specs.Determinacy.{IsPrefixOf}
+use Rattle.kpn_model.specs.History.{IsPrefixOf}
 use Rattle.kpn_laws.specs.Alone.{BeginsWith}
 
 -- a stream that begins with a list begins with each first part of it

@@ -1,12 +1,11 @@
 -- The streams of a run are below each pre-fixed point of the network's equations, and at its own end they are a solution.
 use Rattle.std.proofs.Common.{◌≡◌, inl, ⊎_elim, List, [], ◌∷◌, ◌++◌, length, refl, sym, ap, ◌∙◌, append_assoc, append-nil, ℕ, Some, slice_get, subst}
-use Rattle.kpn_model.specs.Determinacy.{IsPrefixOf}
+use Rattle.kpn_model.specs.History.{IsPrefixOf, deeds, stream}
 use Rattle.kpn_model.specs.declared.token.Token.{Token}
 use Rattle.kpn_model.specs.declared.history.Deed.{Deed}
 use Rattle.kpn_model.specs.declared.history.Deed.TheVariants.{Took}
 use Rattle.kpn_model.specs.declared.history.Entry.{Entry}
 use Rattle.kpn_model.specs.declared.history.Entry.TheVariants.{Did, Grew}
-use Rattle.kpn_model.specs.History.{deeds, stream}
 use Rattle.kpn_model.specs.Network.{Network, channel_of, Family, resized}
 use Rattle.kpn_model.specs.Semantics.{State, tokens, start, Transition, Run, IsBlocked, IsQuiet}
 use Rattle.kpn_laws.specs.Alone.{Streams, BeginsWith, puts, took, IsDeedAlone, DoesAlone}

@@ -1,6 +1,6 @@
 -- Capacities that suffice, and runs that keep theirs.
 use Rattle.std.proofs.Common.{◌≡◌, ◌≤◌, ◌<◌, List, [], ◌∷◌, length, refl, sym, ap, ◌∙◌, arith, ℕ, ◌+◌, zero, suc, get_or, subst}
-use Rattle.kpn_model.specs.Determinacy.{IsFinal}
+use Rattle.kpn_model.specs.Endings.{IsFinal}
 use Rattle.kpn_model.specs.History.{growths, grown}
 use Rattle.kpn_model.specs.declared.parts.Channel.{Channel}
 use Rattle.kpn_model.specs.Network.{no_channel, channel_of, Family, resize, resized}

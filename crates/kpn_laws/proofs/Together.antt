@@ -1,14 +1,13 @@
 -- With capacities that are great enough one run does all that two runs did.
 use Rattle.std.proofs.Common.{◌≡◌, ◌≤◌, ◌<◌, inl, ⊎_elim, List, [], ◌∷◌, ◌++◌, length, refl, sym, ap, ◌∙◌, arith, append-nil, length-append, ℕ, ◌+◌, ◌==◌, if◌then◌else◌, Bool, true, false, suc, zero, get_or, subst}
-use Rattle.kpn_model.specs.Determinacy.{IsPrefixOf, IsRun}
+use Rattle.kpn_model.specs.History.{IsPrefixOf, deeds}
+use Rattle.kpn_model.specs.Semantics.{IsRun, State, tokens, capacity, start, Transition, Run, IsBlocked}
 use Rattle.kpn_model.specs.declared.parts.Channel.{Channel}
 use Rattle.kpn_model.specs.declared.history.Deed.{Deed}
 use Rattle.kpn_model.specs.declared.history.Deed.TheVariants.{Took, Put, Stopped}
 use Rattle.kpn_model.specs.declared.history.Entry.{Entry}
 use Rattle.kpn_model.specs.declared.history.Entry.TheVariants.{Did, Grew}
-use Rattle.kpn_model.specs.History.{deeds}
 use Rattle.kpn_model.specs.Network.{Network, no_channel, channel_of, Family, resize, resized}
-use Rattle.kpn_model.specs.Semantics.{State, tokens, capacity, start, Transition, Run, IsBlocked}
 use Rattle.kpn_laws.specs.Alone.{puts, took}
 use Rattle.kpn_laws.proofs.Lists.{prefix_trans, prefix_cases, prefix_to_push}
 use Rattle.kpn_laws.proofs.Views.{deeds_push_same, deeds_push_grew}

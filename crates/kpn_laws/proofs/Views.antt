@@ -1,12 +1,11 @@
 -- A history as each process and each channel sees it.
 use Rattle.std.proofs.Common.{◌≡◌, inl, inr, List, [], ◌∷◌, ◌++◌, refl, sym, ap, ◌∙◌, append-nil, ℕ, ◌==◌, if◌then◌else◌, Bool, true, false, eq-eqb}
-use Rattle.kpn_model.specs.Determinacy.{IsPrefixOf, ArePrefixComparable}
+use Rattle.kpn_model.specs.History.{IsPrefixOf, ArePrefixComparable, deeds, put_on, taken, growths, grown}
 use Rattle.kpn_model.specs.declared.token.Token.{Token}
 use Rattle.kpn_model.specs.declared.history.Deed.{Deed}
 use Rattle.kpn_model.specs.declared.history.Deed.TheVariants.{Took, Put, Stopped}
 use Rattle.kpn_model.specs.declared.history.Entry.{Entry}
 use Rattle.kpn_model.specs.declared.history.Entry.TheVariants.{Did, Grew}
-use Rattle.kpn_model.specs.History.{deeds, put_on, taken, growths, grown}
 use Rattle.kpn_laws.specs.Alone.{puts, took}
 
 -- an element that is added conditionally comes before what is appended

@@ -8,8 +8,7 @@ use Rattle.kpn_model.specs.declared.kinds.Answer.{Answer}
 use Rattle.kpn_model.specs.declared.kinds.Card.{Card}
 use Rattle.kpn_model.specs.declared.kinds.Signature.{Signature}
 use Rattle.kpn_model.specs.Network.{Network, channel_of, Family, card_of, no_process}
-use Rattle.kpn_model.specs.Semantics.{State, status, wants, start, Transition}
-use Rattle.kpn_model.specs.Determinacy.{IsRun}
+use Rattle.kpn_model.specs.Semantics.{State, status, wants, start, Transition, IsRun}
 use Rattle.kpn_model.specs.Lawful.{read_by, CardFits, NamesPort, LeadsOn, AreLawful}
 use Rattle.kpn_model.specs.Valid.{IsValid, IsOfSort, IsWellTyped, StaysWellTyped}
 use Rattle.kpn_laws.proofs.Transitions.{live_within}

@@ -6,10 +6,9 @@ use Rattle.kpn_model.specs.declared.history.Deed.TheVariants.{Took, Put, Stopped
 use Rattle.kpn_model.specs.declared.history.Entry.{Entry}
 use Rattle.kpn_model.specs.declared.history.Entry.TheVariants.{Did, Grew}
 use Rattle.kpn_model.specs.Network.{Network, Family}
-use Rattle.kpn_model.specs.Semantics.{State, tokens, capacity, with_status, with_channel, IsDeed, after_deed, start, Transition}
+use Rattle.kpn_model.specs.Semantics.{State, tokens, capacity, with_status, with_channel, IsDeed, after_deed, start, Transition, IsRun}
 use Rattle.kpn_model.specs.declared.kinds.Answer.{Answer}
 use Rattle.kpn_model.specs.declared.history.Status.TheVariants.{Live}
-use Rattle.kpn_model.specs.Determinacy.{IsRun}
 use Rattle.kpn_model.specs.Moments.{IsWithin, AlwaysWithin}
 use Rattle.kpn_laws.proofs.States.{out_of-writer, holds_within, tokens_set_same, tokens_set_other, capacity_set_same, capacity_set_other}
 use Rattle.kpn_laws.proofs.Transitions.{capacity_after, took_read, put_write}

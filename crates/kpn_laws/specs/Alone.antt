@@ -10,7 +10,7 @@ use Rattle.kpn_model.specs.declared.history.Status.{Status}
 use Rattle.kpn_model.specs.declared.history.Status.TheVariants.{Live, Done}
 use Rattle.kpn_model.specs.Network.{Family, Network, in_of, out_of}
 use Rattle.kpn_model.specs.Semantics.{status, start, answered}
-use Rattle.kpn_model.specs.Determinacy.{ArePrefixComparable}
+use Rattle.kpn_model.specs.History.{ArePrefixComparable}
 
 -- the token at each place of each channel's stream, finite or endless; none past its end
 abbrev pub Streams : Type 0

@@ -3,9 +3,8 @@ use Rattle.std.specs.Prelude.{◌⊎◌, ℕ, ◌+◌, ◌*◌, ◌<◌, ◌≤�
 use Rattle.kpn_model.specs.declared.history.Entry.{Entry}
 use Rattle.kpn_model.specs.declared.history.End.{End}
 use Rattle.kpn_model.specs.Network.{Family, Network}
-use Rattle.kpn_model.specs.Semantics.{State, capacity, IsArtificial, IsChosen, Transition, Run}
+use Rattle.kpn_model.specs.Semantics.{State, capacity, IsArtificial, IsChosen, Transition, Run, IsRun}
 use Rattle.kpn_model.specs.Endings.{IsNatural, IsOver}
-use Rattle.kpn_model.specs.Determinacy.{IsRun}
 use Rattle.kpn_laws.specs.Sufficient.{EndsWithin, LastsWithin}
 
 abbrev pub CanGoOn : Family → Network → State → Type 0

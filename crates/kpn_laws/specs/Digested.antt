@@ -5,7 +5,7 @@ use Rattle.kpn_model.specs.declared.history.End.{End}
 use Rattle.kpn_model.specs.Network.{Family, Network}
 use Rattle.kpn_model.specs.Semantics.{State}
 use Rattle.kpn_model.specs.History.{Digest, digest}
-use Rattle.kpn_model.specs.Determinacy.{IsFinal}
+use Rattle.kpn_model.specs.Endings.{IsFinal}
 
 pub record HasDigest (kinds : Family) (net : Network) (d : Digest) : Type 0 where
   pub history : List Entry

@@ -6,10 +6,9 @@ use Rattle.kpn_model.specs.declared.history.Deed.{Deed}
 use Rattle.kpn_model.specs.declared.history.Entry.{Entry}
 use Rattle.kpn_model.specs.declared.history.End.{End}
 use Rattle.kpn_model.specs.Network.{Family, Network, channel_of, resized}
-use Rattle.kpn_model.specs.Semantics.{State}
-use Rattle.kpn_model.specs.Endings.{IsNatural}
-use Rattle.kpn_model.specs.History.{deeds, stream, digest}
-use Rattle.kpn_model.specs.Determinacy.{IsPrefixOf, IsRun, IsFinal}
+use Rattle.kpn_model.specs.Semantics.{State, IsRun}
+use Rattle.kpn_model.specs.Endings.{IsNatural, IsFinal}
+use Rattle.kpn_model.specs.History.{deeds, stream, digest, IsPrefixOf}
 use Rattle.kpn_laws.specs.Alone.{Streams, BeginsWith, puts, DoesAlone}
 
 abbrev pub streams_of : Network → List Entry → Streams

@@ -4,9 +4,9 @@ use Rattle.kpn_model.specs.declared.history.Entry.{Entry}
 use Rattle.kpn_model.specs.declared.history.Entry.TheVariants.{Grew}
 use Rattle.kpn_model.specs.declared.history.End.TheVariants.{Ceiling}
 use Rattle.kpn_model.specs.Network.{Family, Network, channel_of, resized}
-use Rattle.kpn_model.specs.Semantics.{State, start, capacity, IsArtificial, IsChosen}
-use Rattle.kpn_model.specs.History.{deeds, growths, grown}
-use Rattle.kpn_model.specs.Determinacy.{IsPrefixOf, IsRun, IsFinal}
+use Rattle.kpn_model.specs.Semantics.{State, start, capacity, IsArtificial, IsChosen, IsRun}
+use Rattle.kpn_model.specs.History.{deeds, growths, grown, IsPrefixOf}
+use Rattle.kpn_model.specs.Endings.{IsFinal}
 use Rattle.kpn_laws.specs.Sufficient.{IsBoundedBy, Suffices}
 
 -- each process does in F at most what it does in E, so F has no more entries, growths aside

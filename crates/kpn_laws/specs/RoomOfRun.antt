@@ -4,10 +4,9 @@ use Rattle.kpn_model.specs.declared.history.Entry.{Entry}
 use Rattle.kpn_model.specs.declared.history.Entry.TheVariants.{Grew}
 use Rattle.kpn_model.specs.declared.history.End.TheVariants.{Ceiling}
 use Rattle.kpn_model.specs.Network.{Family, Network, channel_of}
-use Rattle.kpn_model.specs.Semantics.{State, capacity}
+use Rattle.kpn_model.specs.Semantics.{State, capacity, IsRun}
 use Rattle.kpn_model.specs.Endings.{IsOver}
 use Rattle.kpn_model.specs.History.{growths, grown}
-use Rattle.kpn_model.specs.Determinacy.{IsRun}
 use Rattle.kpn_laws.specs.Sufficient.{EndsWithin, Suffices}
 
 -- but for the step, the run E to M takes at most capacity b for each channel

@@ -3,10 +3,9 @@ use Rattle.std.specs.Prelude.{◌≡◌, ◌⊎◌, ℕ, ◌+◌, ◌<◌, ◌�
 use Rattle.kpn_model.specs.declared.history.Entry.{Entry}
 use Rattle.kpn_model.specs.declared.history.End.{End}
 use Rattle.kpn_model.specs.Network.{Family, Network, resized}
-use Rattle.kpn_model.specs.Semantics.{State, capacity}
+use Rattle.kpn_model.specs.Semantics.{State, capacity, IsRun}
 use Rattle.kpn_model.specs.History.{growths}
-use Rattle.kpn_model.specs.Determinacy.{IsRun, IsFinal}
-use Rattle.kpn_model.specs.Endings.{IsNatural}
+use Rattle.kpn_model.specs.Endings.{IsFinal, IsNatural}
 
 abbrev pub IsBoundedBy : State → ℕ → Type 0
 IsBoundedBy M b = (c : ℕ) → capacity M c ≤ b

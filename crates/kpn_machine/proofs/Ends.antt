@@ -7,7 +7,8 @@ use Rattle.kpn_model.specs.declared.history.End.{End}
 use Rattle.kpn_model.specs.declared.history.End.TheVariants.{Terminated, Deadlock, Ceiling, Budget, Memory}
 use Rattle.kpn_model.specs.Network.{Network, Family}
 use Rattle.kpn_model.specs.Semantics.{State}
-use Rattle.kpn_model.specs.Endings.{NothingGoesOn, IsOver, MayStand, has_report}
+use Rattle.kpn_model.specs.Endings.{NothingGoesOn, IsOver, MayStand}
+use Rattle.kpn_model.specs.texts.Reports.{has_report}
 use Rattle.kpn_laws.proofs.Causes.{cause_same, over_grows_not}
 use Rattle.kpn_body.specs.Input.{Input}
 use Rattle.kpn_state.specs.StateAndHistory.{StateAndHistory}

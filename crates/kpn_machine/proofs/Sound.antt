@@ -9,8 +9,7 @@ use Rattle.kpn_model.specs.declared.kinds.Answer.{Answer}
 use Rattle.kpn_model.specs.declared.history.Entry.{Entry}
 use Rattle.kpn_model.specs.declared.history.End.{End}
 use Rattle.kpn_model.specs.Network.{Network, Family, card_of}
-use Rattle.kpn_model.specs.Semantics.{State, wants, start, status}
-use Rattle.kpn_model.specs.Determinacy.{IsRun}
+use Rattle.kpn_model.specs.Semantics.{State, wants, start, status, IsRun}
 use Rattle.kpn_model.specs.Moments.{IsWithin, AtEachMoment}
 use Rattle.kpn_model.specs.Valid.{IsValid, IsWellTyped, StaysWellTyped}
 use Rattle.kpn_laws.specs.ValidRuns.{StaysWithin}

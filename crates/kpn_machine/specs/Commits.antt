@@ -6,7 +6,8 @@ use Rattle.kpn_model.specs.declared.history.End.{End}
 use Rattle.kpn_model.specs.declared.history.End.TheVariants.{Budget, Memory}
 use Rattle.kpn_model.specs.Network.{Family}
 use Rattle.kpn_model.specs.Semantics.{Run, IsEnabled}
-use Rattle.kpn_model.specs.Endings.{CanGrow, IsOver, has_report}
+use Rattle.kpn_model.specs.Endings.{CanGrow, IsOver}
+use Rattle.kpn_model.specs.texts.Reports.{has_report}
 use Rattle.kpn_body.specs.Input.{Input, answer_to}
 use Rattle.kpn_state.specs.declared.standing.Standing.TheVariants.{Ready, Out}
 use Rattle.kpn_commit.specs.declared.resolution.Resolution.TheVariants.{Enlarged}

@@ -8,8 +8,7 @@ use Rattle.kpn_model.specs.declared.history.Entry.{Entry}
 use Rattle.kpn_model.specs.declared.history.End.{End}
 use Rattle.kpn_model.specs.declared.history.End.TheVariants.{Budget}
 use Rattle.kpn_model.specs.Network.{Family, Network, card_of}
-use Rattle.kpn_model.specs.Semantics.{State, status, wants, IsEnabled}
-use Rattle.kpn_model.specs.Determinacy.{IsRun}
+use Rattle.kpn_model.specs.Semantics.{State, status, wants, IsEnabled, IsRun}
 use Rattle.kpn_model.specs.Endings.{MayStand}
 use Rattle.kpn_model.specs.Moments.{IsWithin, AtEachMoment}
 use Rattle.kpn_model.specs.Valid.{IsWellTyped}

@@ -8,7 +8,7 @@ use Rattle.kpn_sketch.specs.declared.fault.NetFault.TheVariants.{NotToml, Keys, 
 use Rattle.kpn_model.specs.declared.kinds.Card.{Card}
 use Rattle.kpn_model.specs.declared.kinds.Signature.{Signature}
 use Rattle.kpn_sketch.specs.declared.sketch.Sketch.{Sketch}
-use Rattle.kpn_model.specs.Name.{is_name}
+use Rattle.kpn_model.specs.texts.NameForm.{is_name}
 use Rattle.kpn_net.specs.Faults.{any_pair, same_process, same_channel, same_out, same_in, has_fault}
 use Rattle.kpn_message.specs.Location.{holds_at, clashes_at, HoldsNowhere, is_of_description, process_has_fault, channel_has_fault}
 

@@ -9,8 +9,8 @@ use Rattle.kpn_model.specs.declared.kinds.Signature.{Signature}
 use Rattle.kpn_sketch.specs.declared.sketch.Sketch.{Sketch}
 use Rattle.kpn_message.specs.declared.location.Location.{Location}
 use Rattle.kpn_message.specs.declared.location.Location.TheVariants.{Description, Process, Channel}
-use Rattle.kpn_model.specs.Name.{is_name}
-use Rattle.kpn_model.specs.Version.{ceiling_in}
+use Rattle.kpn_model.specs.texts.NameForm.{is_name}
+use Rattle.kpn_model.specs.texts.Version.{ceiling_in}
 use Rattle.kpn_net.specs.Faults.{is_outside, same_process, same_channel, same_out, same_in, is_sort, has_wrong_tokens, has_unknown_kind, has_wrong_args, has_unused_port, sketched_out_sort, sketched_in_sort, has_fault}
 
 abbrev pub holds_at : {A : Type 0} → (A → Bool) → List A → ℕ → Bool

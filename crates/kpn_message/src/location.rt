@@ -2,8 +2,8 @@
 ghost use Rattle.std.specs.Prelude.{◌≡◌, ◌||◌, length, not, pos, IfSome, IfNone};
 ghost use Rattle.std.specs.List.{list_any};
 ghost use Rattle.kpn_message.specs.Location.{clashes_at, holds_at, IsFirst, HoldsNowhere, process_has_fault, channel_has_fault, IsLocation};
-ghost use Rattle.kpn_model.specs.Name.{is_name};
-ghost use Rattle.kpn_model.specs.Version.{ceiling_in};
+ghost use Rattle.kpn_model.specs.texts.NameForm.{is_name};
+ghost use Rattle.kpn_model.specs.texts.Version.{ceiling_in};
 ghost use Rattle.kpn_net.specs.Faults.{is_outside, same_process, same_channel, same_out, same_in};
 
 use kpn_net::faults::{

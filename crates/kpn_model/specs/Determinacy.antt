@@ -1,27 +1,11 @@
 -- The outcome does not depend on the schedule.
-use Rattle.std.specs.Prelude.{◌≡◌, ◌⊎◌, ℕ, ◌≤◌, List, ◌++◌, length}
+use Rattle.std.specs.Prelude.{◌≡◌, ℕ, ◌≤◌, List, length}
 use Rattle.kpn_model.specs.declared.history.Entry.{Entry}
 use Rattle.kpn_model.specs.declared.history.End.{End}
 use Rattle.kpn_model.specs.Network.{Family, Network, resized}
-use Rattle.kpn_model.specs.Semantics.{State, start, wants, Run}
-use Rattle.kpn_model.specs.Endings.{IsOver, IsNatural}
-use Rattle.kpn_model.specs.History.{deeds, stream, place_of, digest}
-
-abbrev pub IsPrefixOf : {X : Type 0} → List X → List X → Type 0
-IsPrefixOf {X} xs ys = (rest : List X) × (xs ++ rest ≡ ys)
-
-abbrev pub ArePrefixComparable : {X : Type 0} → List X → List X → Type 0
-ArePrefixComparable xs ys = IsPrefixOf xs ys ⊎ IsPrefixOf ys xs
-
-module _ (kinds : Family) where
-  -- E leads from the network's start to M
-  abbrev pub IsRun : Network → List Entry → State → Type 0
-  IsRun net E M = Run kinds net (start kinds net) E M
-
-  -- and M is over for this cause
-  pub record IsFinal (net : Network) (E : List Entry) (M : State) (cause : End) : Type 0 where
-    pub run : IsRun net E M
-    pub over : IsOver kinds net M cause
+use Rattle.kpn_model.specs.Semantics.{State, wants, IsRun}
+use Rattle.kpn_model.specs.Endings.{IsFinal, IsNatural}
+use Rattle.kpn_model.specs.History.{ArePrefixComparable, deeds, stream, place_of, digest}
 
 abbrev pub OneDigest : Family → Type 0
 OneDigest kinds =

@@ -1,11 +1,11 @@
 -- How runs end.
-use Rattle.std.specs.Prelude.{◌≡◌, ◌≢◌, ℕ, ◌+◌, ◌<◌, ◌≤◌, Bool, true, false, List, Option, Some, None, length}
+use Rattle.std.specs.Prelude.{◌≡◌, ◌≢◌, ℕ, ◌+◌, ◌<◌, ◌≤◌, List, Option, Some, None, length}
 use Rattle.kpn_model.specs.declared.history.Entry.{Entry}
 use Rattle.kpn_model.specs.declared.history.End.{End}
 use Rattle.kpn_model.specs.declared.history.End.TheVariants.{Terminated, Deadlock, Ceiling, Budget, Memory}
 use Rattle.kpn_model.specs.declared.history.Status.TheVariants.{Done}
 use Rattle.kpn_model.specs.Network.{Family, Network}
-use Rattle.kpn_model.specs.Semantics.{State, status, capacity, IsQuiet, IsBlocked, IsArtificial, IsChosen, Grows}
+use Rattle.kpn_model.specs.Semantics.{State, status, capacity, IsQuiet, IsBlocked, IsArtificial, IsChosen, Grows, IsRun}
 
 pub record CanGrow (kinds : Family) (net : Network) (M : State) : Type 0 where
   pub channel : ℕ
@@ -21,6 +21,11 @@ IsOver kinds net M Ceiling = IsArtificial kinds net M × ((c : ℕ) × IsChosen 
 IsOver kinds net M Budget = ⊥
 IsOver kinds net M Memory = ⊥
 
+-- the run E leads from the start to M, which is over for this cause
+pub record IsFinal (kinds : Family) (net : Network) (E : List Entry) (M : State) (cause : End) : Type 0 where
+  pub run : IsRun kinds net E M
+  pub over : IsOver kinds net M cause
+
 -- the run is over, or out of memory for a growth that is due
 abbrev pub NothingGoesOn : Family → Network → State → End → Type 0
 NothingGoesOn kinds net M Memory = CanGrow kinds net M
@@ -35,12 +40,6 @@ MayEnd kinds net E M end = NothingGoesOn kinds net M end
 abbrev pub MayStand : Family → Network → List Entry → State → Option End → Type 0
 MayStand kinds net E M None = length E < net.budget
 MayStand kinds net E M (Some end) = MayEnd kinds net E M end
-
--- whether a run with this end is over, so that its report has more than the end
-abbrev pub has_report : End → Bool
-has_report Budget = false
-has_report Memory = false
-has_report _ = true
 
 -- the end does not depend on the capacities
 abbrev pub IsNatural : End → Type 0

@@ -1,5 +1,5 @@
 -- What is read off a history.
-use Rattle.std.specs.Prelude.{◌++◌, ℕ, ◌==◌, if◌then◌else◌, List, [], ◌∷◌, Option, Some, None, length, drop, map}
+use Rattle.std.specs.Prelude.{◌≡◌, ◌⊎◌, ◌++◌, ℕ, ◌==◌, if◌then◌else◌, List, [], ◌∷◌, Option, Some, None, length, drop, map}
 use Rattle.std.specs.List.{range_with_len}
 use Rattle.kpn_model.specs.declared.token.Token.{Token}
 use Rattle.kpn_model.specs.declared.kinds.Act.{Act}
@@ -91,3 +91,9 @@ digest kinds net cause E M =
       growths = growths E;
       entries = length E;
     }
+
+abbrev pub IsPrefixOf : {X : Type 0} → List X → List X → Type 0
+IsPrefixOf {X} xs ys = (rest : List X) × (xs ++ rest ≡ ys)
+
+abbrev pub ArePrefixComparable : {X : Type 0} → List X → List X → Type 0
+ArePrefixComparable xs ys = IsPrefixOf xs ys ⊎ IsPrefixOf ys xs

@@ -6,9 +6,7 @@ pub mod History
 pub mod Endings
 pub mod Determinacy
 pub mod Moments
-pub mod Name
 pub mod Valid
-pub mod NamesAndLines
-pub mod Version
 pub mod Waits
 pub mod Verdicts
+pub mod texts

@@ -5,10 +5,9 @@ use Rattle.kpn_model.specs.declared.history.Entry.{Entry}
 use Rattle.kpn_model.specs.declared.history.End.{End}
 use Rattle.kpn_model.specs.declared.history.End.TheVariants.{Budget}
 use Rattle.kpn_model.specs.Network.{Family, Network, channel_of}
-use Rattle.kpn_model.specs.Semantics.{State, tokens, capacity, IsEnabled, Does, Run, start}
-use Rattle.kpn_model.specs.Endings.{IsOver, MayEnd}
+use Rattle.kpn_model.specs.Semantics.{State, tokens, capacity, IsEnabled, Does, Run, start, IsRun}
+use Rattle.kpn_model.specs.Endings.{IsOver, MayEnd, IsFinal}
 use Rattle.kpn_model.specs.History.{stream, taken, growths, grown}
-use Rattle.kpn_model.specs.Determinacy.{IsRun, IsFinal}
 
 -- no channel holds more tokens than its capacity
 abbrev pub IsWithin : State → Type 0

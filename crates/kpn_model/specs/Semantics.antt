@@ -126,3 +126,7 @@ module _ (kinds : Family) (net : Network) where
   abbrev pub Run : State → List Entry → State → Type 0
   Run M [] N = N ≡ M
   Run M (e ∷ es) N = (mid : State) × Transition M e mid × Run mid es N
+
+  -- E leads from the network's start to M
+  abbrev pub IsRun : List Entry → State → Type 0
+  IsRun E M = Run start E M

@@ -9,11 +9,10 @@ use Rattle.kpn_model.specs.declared.parts.Channel.{Channel}
 use Rattle.kpn_model.specs.declared.limits.TheConstants.{MOST_PROCESSES, MOST_CHANNELS, CEILING, HIGH_CEILING, GREATEST_BUDGET, GREATEST_HIGH_BUDGET, GREATEST_STEP}
 use Rattle.kpn_model.specs.declared.history.Entry.{Entry}
 use Rattle.kpn_model.specs.declared.history.Status.TheVariants.{Live}
-use Rattle.kpn_model.specs.Name.{is_name}
+use Rattle.kpn_model.specs.texts.NameForm.{is_name}
 use Rattle.kpn_model.specs.Network.{Family, Network, card_of, channel_of}
 use Rattle.kpn_model.specs.Lawful.{sort_of, Fits, CardFits, in_sort, out_sort}
-use Rattle.kpn_model.specs.Semantics.{State, status, tokens}
-use Rattle.kpn_model.specs.Determinacy.{IsRun}
+use Rattle.kpn_model.specs.Semantics.{State, status, tokens, IsRun}
 
 abbrev pub JustOne : {A : Type 0} → (A → Type 0) → List A → Type 0
 JustOne P xs = Any P xs × AllPairs (λ x y. P x → P y → ⊥) xs

@@ -1,6 +1,6 @@
 //! What the version of a description decides.
 ghost use Rattle.std.specs.Prelude.{◌≡◌};
-ghost use Rattle.kpn_model.specs.Version.{is_two, ceiling_in, greatest_budget_in};
+ghost use Rattle.kpn_model.specs.texts.Version.{is_two, ceiling_in, greatest_budget_in};
 
 use crate::limits::{CEILING, GREATEST_BUDGET, GREATEST_HIGH_BUDGET, HIGH_CEILING};
 

@@ -3,8 +3,7 @@ ghost use Rattle.std.specs.Prelude.{Bool, ◌≡◌, ◌≢◌, ◌+◌, ◌<◌
 ghost use Rattle.kpn_model.specs.Families.{family};
 ghost use Rattle.std.specs.List.{All, sum_by};
 ghost use Rattle.kpn_model.specs.declared.history.End.{End as EndV};
-ghost use Rattle.kpn_model.specs.Semantics.{State};
-ghost use Rattle.kpn_model.specs.Determinacy.{IsRun};
+ghost use Rattle.kpn_model.specs.Semantics.{State, IsRun};
 ghost use mathlib.Core.List.{IsPrefix};
 ghost use Rattle.kpn_watch.specs.declared.progress.Phase.TheVariants.{Running};
 ghost use Rattle.kpn_watch.specs.Shown.{shows};

@@ -22,10 +22,10 @@ use Rattle.kpn_model.specs.declared.parts.Process.{Process}
 use Rattle.kpn_model.specs.declared.parts.Channel.{Channel}
 use Rattle.kpn_model.specs.declared.kinds.Card.{Card}
 use Rattle.kpn_model.specs.declared.kinds.Signature.{Signature}
-use Rattle.kpn_model.specs.Name.{is_name}
+use Rattle.kpn_model.specs.texts.NameForm.{is_name}
 use Rattle.kpn_model.specs.Lawful.{CardFits, Fits, port_at, in_sort, out_sort}
 use Rattle.kpn_net.specs.Faults.{any_pair, is_outside, is_sort, same_process, same_channel, port_sort, card_with, signature_of, has_wrong_args, takes_other_count, sketched_out_sort, sketched_in_sort, is_unused, is_unused_out, is_unused_in, has_unused_port, has_unknown_kind, same_out, same_in, is_token, has_wrong_tokens, has_fault, first_fault}
-use Rattle.kpn_model.specs.Version.{is_two, greatest_budget_in}
+use Rattle.kpn_model.specs.texts.Version.{is_two, greatest_budget_in}
 use Rattle.kpn_model.specs.Network.{Network, no_process, card_of}
 use Rattle.kpn_net.specs.Sketched.{net_of, process_in, token_in, channel_in, index_of}
 use Rattle.kpn_model.specs.Valid.{HasEnds, JustOne, IsValid, IsOfSort}

@@ -17,8 +17,8 @@ use Rattle.kpn_model.specs.declared.kinds.Card.{Card}
 use Rattle.kpn_model.specs.declared.kinds.Signature.{Signature}
 use Rattle.kpn_model.specs.declared.limits.TheConstants.{MOST_PROCESSES, MOST_CHANNELS, GREATEST_STEP}
 use Rattle.kpn_model.specs.Lawful.{port_at}
-use Rattle.kpn_model.specs.Name.{is_name}
-use Rattle.kpn_model.specs.Version.{is_two, ceiling_in, greatest_budget_in}
+use Rattle.kpn_model.specs.texts.NameForm.{is_name}
+use Rattle.kpn_model.specs.texts.Version.{is_two, ceiling_in, greatest_budget_in}
 
 -- the test holds of some item and a later one
 abbrev pub any_pair : {A : Type 0} → (A → A → Bool) → List A → Bool

@@ -12,7 +12,7 @@ use Rattle.kpn_model.specs.declared.parts.Process.{Process}
 use Rattle.kpn_model.specs.declared.parts.Channel.{Channel}
 use Rattle.kpn_model.specs.Network.{Network}
 use Rattle.kpn_net.specs.Faults.{card_with}
-use Rattle.kpn_model.specs.Version.{ceiling_in}
+use Rattle.kpn_model.specs.texts.Version.{ceiling_in}
 
 abbrev pub index_of : List ProcessSketch → List ℕ → ℕ
 index_of processes name = unwrap_or (position (λ p. bytes_eq p.name name) processes) 0

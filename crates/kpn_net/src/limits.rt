@@ -1,7 +1,7 @@
 //! Faults of numbers: version, counts, capacities, budget, start tokens and step.
 ghost use Rattle.std.specs.Prelude.{◌≡◌, not, int_lt, pos};
 ghost use Rattle.std.specs.List.{list_any};
-ghost use Rattle.kpn_model.specs.Version.{ceiling_in};
+ghost use Rattle.kpn_model.specs.texts.Version.{ceiling_in};
 ghost use Rattle.kpn_net.specs.Faults.{is_outside, is_token, has_wrong_tokens, has_fault};
 
 use kpn_model::limits::{GREATEST_STEP, MOST_CHANNELS, MOST_PROCESSES};

@@ -2,7 +2,7 @@
 ghost use Rattle.std.specs.Prelude.{◌≡◌, not, Bool, option_copied, slice_index};
 ghost use Rattle.std.specs.List.{find, list_any, list_all};
 ghost use Rattle.std.specs.Str.{bytes_eq};
-ghost use Rattle.kpn_model.specs.Name.{is_letter, is_name_byte, is_name};
+ghost use Rattle.kpn_model.specs.texts.NameForm.{is_letter, is_name_byte, is_name};
 ghost use Rattle.kpn_net.specs.Faults.{any_pair, same_process, same_channel, has_fault};
 
 use kpn_model::Kinds;

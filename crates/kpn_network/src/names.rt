@@ -1,6 +1,6 @@
 //! Names of processes and channels that a network may have.
 ghost use Rattle.std.specs.Prelude.{◌≡◌};
-ghost use Rattle.kpn_model.specs.NamesAndLines.{channel_name, process_name};
+ghost use Rattle.kpn_model.specs.texts.Names.{channel_name, process_name};
 
 use crate::net::Net;
 use kpn_model::Kinds;

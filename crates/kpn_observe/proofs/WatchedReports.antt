@@ -6,8 +6,8 @@ use Rattle.kpn_model.specs.declared.history.End.{End}
 use Rattle.kpn_model.specs.declared.history.Entry.{Entry}
 use Rattle.kpn_model.specs.Network.{Family, Network}
 use Rattle.kpn_model.specs.Semantics.{State}
-use Rattle.kpn_model.specs.Endings.{MayEnd, MayStand, has_report}
-use Rattle.kpn_model.specs.Determinacy.{IsFinal}
+use Rattle.kpn_model.specs.Endings.{MayEnd, MayStand, IsFinal}
+use Rattle.kpn_model.specs.texts.Reports.{has_report}
 use Rattle.kpn_machine.specs.MachineView.{MachineView, IsFaithful}
 use Rattle.kpn_run.proofs.RunReports.{over_of}
 

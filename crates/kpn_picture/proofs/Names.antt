@@ -2,7 +2,7 @@
 use Rattle.std.proofs.Common.{◌≡◌, ◌≢◌, ℕ, true, false, List, refl}
 use Rattle.std.proofs.lemmas.Bool.{and_parts}
 use Rattle.std.proofs.lemmas.List.Sums.{AllPass-from_list_all}
-use Rattle.kpn_model.specs.Name.{is_name, is_name_byte}
+use Rattle.kpn_model.specs.texts.NameForm.{is_name, is_name_byte}
 use Rattle.kpn_picture.specs.Picture.{IsPlain}
 
 -- a byte that is no byte of a name differs from each byte of a name

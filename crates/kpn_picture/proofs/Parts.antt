@@ -1,6 +1,6 @@
 -- Texts that are appended part by part.
 use Rattle.std.proofs.Common.{◌≡◌, ℕ, ◌+◌, List, ◌++◌, ap, ◌∙◌, append_assoc, add-one}
-use Rattle.kpn_model.specs.NamesAndLines.{lines_upto}
+use Rattle.kpn_model.specs.texts.Reports.{lines_upto}
 
 pub pushed_two : (old mid new a b : List ℕ) → mid ≡ old ++ a → new ≡ mid ++ b → new ≡ old ++ (a ++ b)
 pushed_two old mid new a b first second = second ∙ ap (λ xs. xs ++ b) first ∙ append_assoc old a b

@@ -12,7 +12,8 @@ use Rattle.kpn_model.specs.declared.history.Place.{Place}
 use Rattle.kpn_model.specs.declared.history.Place.TheVariants.{Stopped, Reads, Writes}
 use Rattle.kpn_model.specs.declared.history.End.{End}
 use Rattle.kpn_model.specs.Network.{Network, card_of, channel_of, in_of, out_of}
-use Rattle.kpn_model.specs.NamesAndLines.{process_name, channel_name, lines_upto}
+use Rattle.kpn_model.specs.texts.Names.{process_name, channel_name}
+use Rattle.kpn_model.specs.texts.Reports.{lines_upto}
 use Rattle.kpn_model.specs.Waits.{is_on_cycle, is_jammed}
 use Rattle.kpn_standard.specs.Locals.{at}
 use Rattle.kpn_picture.specs.declared.edges.EdgeForm.{EdgeForm}

@@ -2,7 +2,7 @@
 ghost use Rattle.std.specs.Prelude.{◌≡◌, ◌++◌, ◌<◌, [], OnOk, length, string_bytes, if◌then◌else◌};
 ghost use Rattle.kpn_model.specs.Network.{channel_of};
 ghost use Rattle.kpn_model.specs.Waits.{is_jammed};
-ghost use Rattle.kpn_model.specs.NamesAndLines.{lines_upto};
+ghost use Rattle.kpn_model.specs.texts.Reports.{lines_upto};
 ghost use Rattle.kpn_picture.specs.Picture.{arrow, edge_opening, edge_look, has_grown, capacity_text, capacity_part, held_part, held_tokens, last_capacity, port_part, tail_part, head_part, has_rows, stays, edge_label, edge_attributes, edge_line, form_of, formed_line, label_part, link_part};
 
 use crate::looks::{edge_look, link_part, row_part, sort_part};

@@ -2,7 +2,7 @@
 ghost use Rattle.std.specs.Prelude.{◌≡◌, ◌++◌, ◌<◌, [], OnOk, IsSome, length, string_bytes};
 ghost use Rattle.std.specs.Option.{option_map_or};
 ghost use Rattle.kpn_model.specs.Network.{card_of};
-ghost use Rattle.kpn_model.specs.NamesAndLines.{lines_upto};
+ghost use Rattle.kpn_model.specs.texts.Reports.{lines_upto};
 ghost use Rattle.kpn_picture.specs.Titles.{below};
 ghost use Rattle.kpn_picture.specs.Picture.{argument_part, box_line, box_opening, box_title, kind_text, place_label, node_line};
 

@@ -12,8 +12,7 @@ use Rattle.kpn_model.specs.declared.history.Place.{Place}
 use Rattle.kpn_model.specs.Network.{Family, Network, channel_of}
 use Rattle.kpn_model.specs.Semantics.{State}
 use Rattle.kpn_model.specs.History.{Digest, digest, each_channel, stream, put_on, taken, growths, grown}
-use Rattle.kpn_model.specs.NamesAndLines.{lines_upto}
-use Rattle.kpn_model.specs.Endings.{has_report}
+use Rattle.kpn_model.specs.texts.Reports.{lines_upto, has_report}
 use Rattle.kpn_report.specs.declared.channel_counts.ChannelCounts.{ChannelCounts}
 use Rattle.kpn_report.specs.Tally.{KeepsCounts}
 use Rattle.kpn_report.specs.Text.{end_line, digest_line, digest_text, report_text}

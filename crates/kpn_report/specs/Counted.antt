@@ -7,7 +7,7 @@ use Rattle.kpn_model.specs.Network.{Network, channel_of}
 use Rattle.kpn_model.specs.History.{stream, each_channel}
 use Rattle.kpn_report.specs.declared.channel_counts.ChannelCounts.{ChannelCounts}
 use Rattle.kpn_report.specs.Tally.{counts_at}
-use Rattle.kpn_model.specs.NamesAndLines.{lines_upto}
+use Rattle.kpn_model.specs.texts.Reports.{lines_upto}
 use Rattle.kpn_report.specs.Text.{process_line, channel_line, growth_line, stream_line}
 
 -- left are the start tokens and those put on the channel, without those taken

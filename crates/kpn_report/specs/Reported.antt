@@ -4,7 +4,7 @@ use Rattle.kpn_model.specs.declared.history.End.{End}
 use Rattle.kpn_model.specs.declared.history.Entry.{Entry}
 use Rattle.kpn_model.specs.Network.{Family, Network}
 use Rattle.kpn_model.specs.Semantics.{State}
-use Rattle.kpn_model.specs.Endings.{has_report}
+use Rattle.kpn_model.specs.texts.Reports.{has_report}
 use Rattle.kpn_model.specs.History.{Digest, digest}
 use Rattle.kpn_report.specs.declared.detail.Detail.{Detail}
 

@@ -5,7 +5,7 @@ ghost use Rattle.kpn_model.specs.Network.{Family};
 ghost use Rattle.kpn_model.specs.Semantics.{State, wants};
 ghost use Rattle.kpn_model.specs.History.{each_process, place_of, digest};
 ghost use Rattle.kpn_report.specs.Reported.{digest_with, IsReport};
-ghost use Rattle.kpn_model.specs.Endings.{has_report};
+ghost use Rattle.kpn_model.specs.texts.Reports.{has_report};
 ghost use Rattle.kpn_report.specs.Tally.{Tabulates, counts_at};
 
 use crate::channel_counts::ChannelCounts;

@@ -1,7 +1,7 @@
 //! The lines of a report.
 ghost use Rattle.std.specs.Prelude.{◌≡◌, ◌++◌, ◌<◌, OnOk, IfOk, length, string_bytes};
 ghost use Rattle.std.specs.List.{flat_map};
-ghost use Rattle.kpn_model.specs.NamesAndLines.{lines_upto};
+ghost use Rattle.kpn_model.specs.texts.Reports.{lines_upto};
 ghost use Rattle.kpn_report.specs.Text.{process_line, channel_line, growth_line, token_part, end_text, end_line, stream_line};
 
 use crate::channel_counts::ChannelCounts;

@@ -5,9 +5,8 @@ ghost use Rattle.kpn_model.specs.Semantics.{State, wants};
 ghost use Rattle.kpn_model.specs.History.{each_process, place_of};
 ghost use Rattle.kpn_report.specs.Tally.{counts_at};
 ghost use Rattle.kpn_report.specs.Counted.{counted_line, counted_text, shown_of};
-ghost use Rattle.kpn_model.specs.NamesAndLines.{lines_upto};
+ghost use Rattle.kpn_model.specs.texts.Reports.{lines_upto, has_report};
 ghost use Rattle.kpn_report.specs.Text.{report_text};
-ghost use Rattle.kpn_model.specs.Endings.{has_report};
 
 use crate::channel_counts::ChannelCounts;
 use crate::detail::has_report;

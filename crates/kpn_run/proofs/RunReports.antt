@@ -9,9 +9,10 @@ use Rattle.kpn_model.specs.declared.history.End.TheVariants.{Terminated, Deadloc
 use Rattle.kpn_model.specs.declared.history.Place.{Place}
 use Rattle.kpn_model.specs.Network.{Family, Network, resized}
 use Rattle.kpn_model.specs.Semantics.{State, wants}
-use Rattle.kpn_model.specs.Endings.{IsNatural, IsOver, MayEnd, has_report}
+use Rattle.kpn_model.specs.Endings.{IsNatural, IsOver, MayEnd, IsFinal}
+use Rattle.kpn_model.specs.texts.Reports.{has_report}
 use Rattle.kpn_model.specs.History.{Digest, each_process, each_channel, place_of, deeds, stream}
-use Rattle.kpn_model.specs.Determinacy.{IsFinal, OneDigest, OneOutcome}
+use Rattle.kpn_model.specs.Determinacy.{OneDigest, OneOutcome}
 use Rattle.kpn_laws.specs.Alone.{BeginsWith}
 use Rattle.kpn_laws.specs.Equations.{listed, IsLeastSolution, DigestIsLeastSolution, DigestIsBelow}
 use Rattle.kpn_state.specs.Standings.{standing, parked_answer}

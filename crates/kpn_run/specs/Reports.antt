@@ -5,8 +5,8 @@ use Rattle.kpn_model.specs.declared.history.Entry.{Entry}
 use Rattle.kpn_model.specs.Network.{Family, Network, resized}
 use Rattle.kpn_model.specs.Semantics.{State, wants}
 use Rattle.kpn_model.specs.History.{deeds, stream, place_of, each_process, each_channel, digest}
-use Rattle.kpn_model.specs.Determinacy.{IsFinal}
-use Rattle.kpn_model.specs.Endings.{IsNatural, has_report}
+use Rattle.kpn_model.specs.Endings.{IsFinal, IsNatural}
+use Rattle.kpn_model.specs.texts.Reports.{has_report}
 use Rattle.kpn_laws.specs.Alone.{Streams, BeginsWith}
 use Rattle.kpn_laws.specs.Equations.{listed, Obeys, IsLeastSolution}
 use Rattle.kpn_report.specs.declared.detail.Detail.{Detail}

@@ -4,10 +4,10 @@ use Rattle.kpn_model.specs.declared.history.End.{End}
 use Rattle.kpn_model.specs.declared.history.End.TheVariants.{Budget}
 use Rattle.kpn_model.specs.declared.history.Entry.{Entry}
 use Rattle.kpn_model.specs.Network.{Family, Network, resized}
-use Rattle.kpn_model.specs.Semantics.{State}
-use Rattle.kpn_model.specs.Determinacy.{IsRun, IsFinal, AreAllPrefixComparable}
+use Rattle.kpn_model.specs.Semantics.{State, IsRun}
+use Rattle.kpn_model.specs.Endings.{IsFinal, MayEnd}
+use Rattle.kpn_model.specs.Determinacy.{AreAllPrefixComparable}
 use Rattle.kpn_model.specs.Moments.{IsWithin}
-use Rattle.kpn_model.specs.Endings.{MayEnd}
 use Rattle.kpn_laws.specs.RoomOfRun.{TakesLeastRoom}
 use Rattle.kpn_laws.specs.StreamsOfRun.{ApproachLeastSolution}
 use Rattle.kpn_machine.specs.MachineView.{MachineView}

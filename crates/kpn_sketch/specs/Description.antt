@@ -17,7 +17,7 @@ use Rattle.kpn_model.specs.declared.limits.TheConstants.{DEFAULT_BUDGET}
 use Rattle.kpn_sketch.specs.declared.fault.NetFault.{NetFault}
 use Rattle.kpn_sketch.specs.declared.fault.NetFault.TheVariants.{NotToml, Keys, Memory}
 use Rattle.kpn_sketch.specs.Form.{required, optional, array_of, has_only}
-use Rattle.kpn_model.specs.Version.{is_two}
+use Rattle.kpn_model.specs.texts.Version.{is_two}
 
 infixl 10 ◌>>=◌
 abbrev ◌>>=◌ : {A B : Type 0} → Option A → (A → Option B) → Option B

@@ -11,7 +11,7 @@ use Rattle.kpn_model.specs.declared.history.Deed.TheVariants.{Took, Put, Stopped
 use Rattle.kpn_model.specs.declared.history.Status.{Status}
 use Rattle.kpn_model.specs.Network.{Family, Network, no_channel, channel_of, in_of, out_of}
 use Rattle.kpn_model.specs.Semantics.{status, start}
-use Rattle.kpn_model.specs.Determinacy.{IsPrefixOf}
+use Rattle.kpn_model.specs.History.{IsPrefixOf}
 use Rattle.kpn_laws.specs.Alone.{Streams, BeginsWith, puts, after_answer, GoesOnAlone, DoesAlone}
 use Rattle.kpn_laws.specs.Equations.{written}
 use Rattle.kpn_laws.proofs.States.{out_of-writer, out_of-out}

@@ -14,7 +14,7 @@ use Rattle.kpn_model.specs.declared.history.Status.{Status}
 use Rattle.kpn_model.specs.declared.history.Status.TheVariants.{Live, Done}
 use Rattle.kpn_model.specs.Network.{Family, Network, no_process, card_of, channel_of, in_of, out_of}
 use Rattle.kpn_model.specs.Semantics.{status, start}
-use Rattle.kpn_model.specs.Determinacy.{IsPrefixOf}
+use Rattle.kpn_model.specs.History.{IsPrefixOf}
 use Rattle.kpn_laws.specs.Alone.{Streams, BeginsWith, puts, took, after_answer, IsDeedAlone, GoesOnAlone}
 use Rattle.kpn_laws.proofs.Views.{took-append, took_one, took_other}
 use Rattle.kpn_laws.proofs.States.{in_of-input, out_of-out}

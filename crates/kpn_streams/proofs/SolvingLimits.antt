@@ -5,7 +5,7 @@ use Rattle.kpn_model.specs.declared.token.Token.{Token}
 use Rattle.kpn_model.specs.declared.history.Deed.{Deed}
 use Rattle.kpn_model.specs.declared.history.Deed.TheVariants.{Took, Put, Stopped}
 use Rattle.kpn_model.specs.Network.{Family, Network, channel_of}
-use Rattle.kpn_model.specs.Determinacy.{IsPrefixOf}
+use Rattle.kpn_model.specs.History.{IsPrefixOf}
 use Rattle.kpn_laws.specs.Alone.{Streams, BeginsWith, took, IsDeedAlone, DoesAlone}
 use Rattle.kpn_laws.specs.Equations.{written, Obeys}
 use Rattle.kpn_laws.proofs.Lists.{prefix_trans}

@@ -8,8 +8,7 @@ use Rattle.kpn_model.specs.declared.history.Entry.{Entry}
 use Rattle.kpn_model.specs.declared.history.Entry.TheVariants.{Did, Grew}
 use Rattle.kpn_model.specs.Network.{Family, Network, channel_of, resized}
 use Rattle.kpn_model.specs.Semantics.{State, start, Transition, Run}
-use Rattle.kpn_model.specs.History.{deeds, stream}
-use Rattle.kpn_model.specs.Determinacy.{IsPrefixOf}
+use Rattle.kpn_model.specs.History.{deeds, stream, IsPrefixOf}
 use Rattle.kpn_laws.specs.Alone.{Streams, BeginsWith, DoesAlone}
 use Rattle.kpn_laws.specs.Equations.{written, streams_of, Obeys, IsLeastSolution}
 use Rattle.kpn_laws.proofs.Views.{deeds_push_grew}

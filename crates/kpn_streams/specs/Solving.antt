@@ -11,10 +11,9 @@ use Rattle.kpn_model.specs.declared.history.Deed.{Deed}
 use Rattle.kpn_model.specs.declared.history.Entry.{Entry}
 use Rattle.kpn_model.specs.declared.history.End.{End}
 use Rattle.kpn_model.specs.Network.{Family, Network, card_of, channel_of, in_of, out_of, resized}
-use Rattle.kpn_model.specs.Semantics.{State}
-use Rattle.kpn_model.specs.Endings.{IsNatural}
-use Rattle.kpn_model.specs.History.{stream}
-use Rattle.kpn_model.specs.Determinacy.{IsPrefixOf, IsRun, IsFinal}
+use Rattle.kpn_model.specs.Semantics.{State, IsRun}
+use Rattle.kpn_model.specs.Endings.{IsNatural, IsFinal}
+use Rattle.kpn_model.specs.History.{stream, IsPrefixOf}
 use Rattle.kpn_laws.specs.Alone.{Streams, BeginsWith, puts, DoesAlone}
 use Rattle.kpn_laws.specs.Equations.{Obeys, IsSolution, IsLeastSolution}
 use Rattle.kpn_streams.specs.Fed.{Writes}

@@ -6,7 +6,7 @@ use Rattle.kpn_model.specs.declared.history.Place.TheVariants.{Stopped, Reads, W
 use Rattle.kpn_model.specs.declared.verdict.Verdict.{Verdict}
 use Rattle.kpn_model.specs.declared.verdict.Verdict.TheVariants.{Finished, RanDry, Cycle, Cut, Full, Memory}
 use Rattle.kpn_model.specs.Network.{Network}
-use Rattle.kpn_model.specs.NamesAndLines.{process_name, channel_name}
+use Rattle.kpn_model.specs.texts.Names.{process_name, channel_name}
 use Rattle.kpn_model.specs.Waits.{waits_for}
 
 module _ (net : Network) (places : List Place) where

@@ -12,7 +12,7 @@ use Rattle.kpn_model.specs.declared.history.Entry.{Entry}
 use Rattle.kpn_model.specs.declared.history.End.TheVariants.{Terminated, Deadlock}
 use Rattle.kpn_model.specs.Network.{Family, Network, channel_of, in_of}
 use Rattle.kpn_model.specs.Semantics.{State, start}
-use Rattle.kpn_model.specs.Determinacy.{IsPrefixOf}
+use Rattle.kpn_model.specs.History.{IsPrefixOf}
 use Rattle.kpn_standard.specs.Standard.{standard}
 use Rattle.kpn_laws.specs.Alone.{Streams, BeginsWith, puts, took, IsDeedAlone, DoesAlone}
 use Rattle.kpn_laws.specs.Equations.{listed, written, Obeys, IsSolution}

@@ -16,9 +16,8 @@ use Rattle.kpn_model.specs.Network.{Family, Network, in_of, out_of}
 use Rattle.kpn_model.specs.declared.history.Status.{Status}
 use Rattle.kpn_model.specs.declared.history.Status.TheVariants.{Live, Done}
 use Rattle.kpn_model.specs.Semantics.{State, status, tokens, capacity, wants, start, IsPossible, IsQuiet, IsDeed, after_deed, with_channel, IsChosen, Transition, Run, IsBlocked}
-use Rattle.kpn_model.specs.Endings.{IsOver}
+use Rattle.kpn_model.specs.Endings.{IsOver, IsFinal}
 use Rattle.kpn_model.specs.History.{Digest, digest}
-use Rattle.kpn_model.specs.Determinacy.{IsFinal}
 use Rattle.kpn_laws.specs.Digested.{HasDigest}
 use Rattle.test_laws.proofs.Schedule.{Turn, Go, Grow, first_taken, read_deed, write_deed, full_at, act_deed, answer_deed, act_full, answer_full, deed_of, full_of, all_still, comes_first, all_after, went, goes, grows_at, turned, entered, played_on, played, all_done, none_full, stuck_at, some_stuck, is_over, digested, digest_of}
 use Rattle.kpn_laws.proofs.Transitions.{live_within, done_wants_none}

@@ -5,8 +5,7 @@ use Rattle.kpn_model.specs.declared.token.Token.{Token}
 use Rattle.kpn_model.specs.declared.token.Token.TheVariants.{Word}
 use Rattle.kpn_model.specs.declared.history.End.TheVariants.{Deadlock}
 use Rattle.kpn_model.specs.Semantics.{start}
-use Rattle.kpn_model.specs.Determinacy.{IsPrefixOf}
-use Rattle.kpn_model.specs.History.{Digest, stream}
+use Rattle.kpn_model.specs.History.{IsPrefixOf, Digest, stream}
 use Rattle.kpn_standard.specs.Standard.{standard}
 use Rattle.kpn_laws.specs.Equations.{listed, IsLeastSolution, IsReached, IsLimit}
 use Rattle.kpn_laws.proofs.Resized.{run_resized}

@@ -4,9 +4,8 @@ use Rattle.kpn_model.specs.declared.history.Entry.{Entry}
 use Rattle.kpn_model.specs.declared.history.Entry.TheVariants.{Did, Grew}
 use Rattle.kpn_model.specs.declared.history.End.{End}
 use Rattle.kpn_model.specs.Network.{Network, channel_of, resized}
-use Rattle.kpn_model.specs.Semantics.{State, start, tokens, capacity, with_channel, Does, IsBlocked, IsArtificial, IsChosen}
-use Rattle.kpn_model.specs.Determinacy.{IsRun, IsFinal}
-use Rattle.kpn_model.specs.Endings.{IsNatural}
+use Rattle.kpn_model.specs.Semantics.{State, start, tokens, capacity, with_channel, Does, IsBlocked, IsArtificial, IsChosen, IsRun}
+use Rattle.kpn_model.specs.Endings.{IsFinal, IsNatural}
 use Rattle.kpn_standard.specs.Standard.{standard}
 use Rattle.kpn_laws.specs.Sufficient.{Suffices}
 use Rattle.test_laws.specs.ChangedRules.{RunBy}

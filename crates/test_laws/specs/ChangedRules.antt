@@ -10,10 +10,9 @@ use Rattle.kpn_model.specs.declared.history.Entry.{Entry}
 use Rattle.kpn_model.specs.declared.history.Entry.TheVariants.{Did, Grew}
 use Rattle.kpn_model.specs.declared.history.End.{End}
 use Rattle.kpn_model.specs.Network.{Network, channel_of, out_of}
-use Rattle.kpn_model.specs.Semantics.{State, start, wants, tokens, capacity, with_channel, after_deed, IsDeed, Does, IsBlocked, IsArtificial, IsChosen, Grows}
+use Rattle.kpn_model.specs.Semantics.{State, start, wants, tokens, capacity, with_channel, after_deed, IsDeed, Does, IsBlocked, IsArtificial, IsChosen, Grows, IsRun}
 use Rattle.kpn_model.specs.Endings.{IsOver}
 use Rattle.kpn_model.specs.History.{taken, digest}
-use Rattle.kpn_model.specs.Determinacy.{IsRun}
 use Rattle.kpn_model.specs.Moments.{IsWithin}
 use Rattle.kpn_standard.specs.Standard.{standard}
 

@@ -5,10 +5,9 @@ use Rattle.kpn_model.specs.declared.history.Deed.{Deed}
 use Rattle.kpn_model.specs.declared.history.Entry.{Entry}
 use Rattle.kpn_model.specs.declared.history.End.{End}
 use Rattle.kpn_model.specs.Network.{Network, channel_of}
-use Rattle.kpn_model.specs.Semantics.{State}
-use Rattle.kpn_model.specs.Endings.{IsNatural}
+use Rattle.kpn_model.specs.Semantics.{State, IsRun}
+use Rattle.kpn_model.specs.Endings.{IsNatural, IsFinal}
 use Rattle.kpn_model.specs.History.{taken, stream}
-use Rattle.kpn_model.specs.Determinacy.{IsRun, IsFinal}
 use Rattle.kpn_standard.specs.Standard.{standard}
 use Rattle.kpn_laws.specs.Alone.{Streams, BeginsWith, puts, DoesAlone}
 use Rattle.kpn_laws.specs.Equations.{streams_of, IsSolution}

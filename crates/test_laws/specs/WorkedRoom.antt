@@ -4,8 +4,7 @@ use Rattle.kpn_model.specs.declared.parts.Process.{Process}
 use Rattle.kpn_model.specs.declared.parts.Channel.{Channel}
 use Rattle.kpn_model.specs.declared.history.Entry.{Entry}
 use Rattle.kpn_model.specs.Network.{Network}
-use Rattle.kpn_model.specs.Semantics.{State, capacity}
-use Rattle.kpn_model.specs.Determinacy.{IsRun}
+use Rattle.kpn_model.specs.Semantics.{State, capacity, IsRun}
 use Rattle.kpn_standard.specs.Standard.{standard}
 use Rattle.kpn_laws.specs.Sufficient.{EndsWithin, LastsWithin}
 use Rattle.test_laws.specs.Building.{count, sink, copy, scale, weave, words, holding, numbers, network}

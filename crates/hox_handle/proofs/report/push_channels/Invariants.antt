@@ -1,5 +1,5 @@
 use Rattle.std.proofs.Common.{◌≡◌, ◌++◌, string_bytes}
-use Rattle.kpn_model.specs.NamesAndLines.{lines_upto}
+use Rattle.kpn_model.specs.texts.Reports.{lines_upto}
 use Rattle.hox_handle.specs.Reports.{channel_line}
 use Rattle.hox_handle.proofs.report.push_channels.Given as goal
 

@@ -1,7 +1,7 @@
 -- What is told of the run's history.
 use Rattle.std.proofs.Common.{◌≡◌, ◌++◌, true, None, string_bytes, sym}
 use Rattle.kpn_model.specs.Network.{family_of}
-use Rattle.kpn_model.specs.Endings.{has_report}
+use Rattle.kpn_model.specs.texts.Reports.{has_report}
 use Rattle.kpn_dry.specs.Told.{is_told_dry}
 use Rattle.kpn_report.specs.Text.{report_text}
 use Rattle.kpn_verdict.specs.VerdictText.{verdict_line}

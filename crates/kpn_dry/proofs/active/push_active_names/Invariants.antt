@@ -1,5 +1,5 @@
 use Rattle.std.proofs.Common.{◌≡◌, ◌++◌, string_bytes}
-use Rattle.kpn_model.specs.NamesAndLines.{lines_upto}
+use Rattle.kpn_model.specs.texts.Reports.{lines_upto}
 use Rattle.kpn_dry.specs.ActiveLine.{active_name}
 use Rattle.kpn_dry.specs.Told.{is_told_dry}
 use Rattle.kpn_dry.proofs.active.push_active_names.Given as goal

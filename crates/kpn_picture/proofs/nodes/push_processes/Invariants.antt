@@ -1,5 +1,5 @@
 use Rattle.std.proofs.Common.{◌≡◌, ◌++◌, string_bytes}
-use Rattle.kpn_model.specs.NamesAndLines.{lines_upto}
+use Rattle.kpn_model.specs.texts.Reports.{lines_upto}
 use Rattle.kpn_picture.specs.Picture.{node_line}
 use Rattle.kpn_picture.proofs.nodes.push_processes.Given as goal
 

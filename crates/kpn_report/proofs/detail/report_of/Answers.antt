@@ -2,7 +2,7 @@
 use Rattle.std.proofs.lemmas.Bool.{true≢false}
 use Rattle.std.proofs.lemmas.Grind.{common_steps}
 use Rattle.std.proofs.Common.{◌≡◌, true, refl, rules, arith, sym, ◌∙◌}
-use Rattle.kpn_model.specs.Endings.{has_report}
+use Rattle.kpn_model.specs.texts.Reports.{has_report}
 use Rattle.kpn_report.proofs.detail.report_of.Goals as goal
 
 pub returns-in_ok-detail_of-clause-detail : goal.returns-in_ok-detail_of-clause-detail

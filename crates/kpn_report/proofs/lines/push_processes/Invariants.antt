@@ -1,5 +1,5 @@
 use Rattle.std.proofs.Common.{◌≡◌, ◌++◌, string_bytes}
-use Rattle.kpn_model.specs.NamesAndLines.{lines_upto}
+use Rattle.kpn_model.specs.texts.Reports.{lines_upto}
 use Rattle.kpn_report.specs.Text.{process_line}
 use Rattle.kpn_report.proofs.lines.push_processes.Given as goal
 

@@ -1,7 +1,7 @@
 -- The first line, and the lines of the history if there is a detail: they are those of the digest.
 use Rattle.std.proofs.Common.{◌≡◌, ◌∙◌, true, false, sym, rules, arith}
 use Rattle.std.proofs.lemmas.Bool.{true≢false, false≢true}
-use Rattle.kpn_model.specs.Endings.{has_report}
+use Rattle.kpn_model.specs.texts.Reports.{has_report}
 use Rattle.kpn_report.specs.Text.{end_line}
 use Rattle.kpn_report.proofs.Tables.{listed}
 use Rattle.kpn_report.proofs.Tallies.{few_put}

@@ -2,8 +2,7 @@
 use Rattle.std.proofs.Common.{sym, subst}
 use Rattle.kpn_model.specs.Network.{Network}
 use Rattle.kpn_model.specs.Families.{family}
-use Rattle.kpn_model.specs.Semantics.{start}
-use Rattle.kpn_model.specs.Determinacy.{IsRun}
+use Rattle.kpn_model.specs.Semantics.{start, IsRun}
 use Rattle.kpn_model.specs.Valid.{IsValid}
 use Rattle.kpn_run.proofs.running.told_by_laws.Goals as goal
 

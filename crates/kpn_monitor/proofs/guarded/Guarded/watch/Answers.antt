@@ -4,8 +4,7 @@ use Rattle.std.proofs.Common.{subst, arith}
 use Rattle.kpn_model.specs.Network.{family_of}
 use Rattle.std.specs.Prelude.{IfOk}
 use Rattle.std.proofs.lemmas.Result.{IfOk-weaker}
-use Rattle.kpn_model.specs.Semantics.{State}
-use Rattle.kpn_model.specs.Determinacy.{IsRun}
+use Rattle.kpn_model.specs.Semantics.{State, IsRun}
 use Rattle.kpn_model.specs.Endings.{MayStand}
 use Rattle.kpn_monitor.specs.Views.{UnderLock}
 use Rattle.kpn_monitor.proofs.Showing.{shown_run}
