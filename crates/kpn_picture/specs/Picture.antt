@@ -120,8 +120,11 @@ box_title title card [] = kind_text title card
 box_title title card (b ∷ bs) = title_text (b ∷ bs)
 
 -- a row has eight processes, in order; a channel stays in a row if both its ends are in it
+abbrev pub are_in_a_row : ℕ → ℕ → Bool
+are_in_a_row p q = p / 8 == q / 8
+
 abbrev pub stays : Channel → Bool
-stays l = l.writer / 8 == l.reader / 8
+stays l = are_in_a_row l.writer l.reader
 
 -- a channel is a branch if it leads from or to another port than the first
 abbrev pub is_branch : Channel → Bool
@@ -135,6 +138,13 @@ has_rows net =
 -- a channel to another row does not affect the layout
 abbrev pub row_part : Bool → Bool → List ℕ
 row_part rows staying = if rows && not staying then codes ", constraint=false" else []
+
+-- what channel c holds, and its capacity: at the end, if known, otherwise at first
+abbrev pub held_tokens : List (List Token) → ℕ → List Token → ℕ
+held_tokens rests c at_first = length (option_map_or (λ rest. rest) (slice_get rests c) at_first)
+
+abbrev pub last_capacity : List ℕ → ℕ → ℕ → ℕ
+last_capacity capacities c at_first = option_map_or (λ n. n) (slice_get capacities c) at_first
 
 module _ (net : Network) where
   -- the place in which a run left a process
@@ -164,12 +174,9 @@ module _ (net : Network) where
     abbrev pub node_line : List (List ℕ) → List Place → ℕ → List ℕ
     node_line titles places p = if is_point p then point_line (process_name net p) (process_look (is_on_cycle net places p) (slice_get places p)) else box_line titles places p
 
-  abbrev pub edge_opening : ℕ → List ℕ
-  edge_opening c = let l = channel_of net c in arrow (process_name net l.writer) (process_name net l.reader)
-
-  -- the numbers of the ports at its ends, from 0, if the process has several
-  abbrev pub tail_part : ℕ → List ℕ
-  tail_part c = let l = channel_of net c in port_part (codes "tail") l.out (out_of net l.writer 1)
+  -- the numbers of the ports at its ends, from 0, if the process has several; none at a point that it leads from
+  abbrev pub tail_part : Bool → ℕ → List ℕ
+  tail_part from_point c = let l = channel_of net c in port_part (codes "tail") l.out (if from_point then None else out_of net l.writer 1)
 
   abbrev pub head_part : ℕ → List ℕ
   head_part c = let l = channel_of net c in port_part (codes "head") l.input (in_of net l.reader 1)
@@ -185,37 +192,34 @@ module _ (net : Network) where
       let l = channel_of net c in
       record { has_rows = rows; from_point = is_point title l.writer; to_point = is_point title l.reader; has_label = not (has_name_of_point title c) }
 
-  module _ (places : List Place) (capacities : List ℕ) (rests : List (List Token)) where
-    -- what channel c holds, and its capacity: at the end, if known, otherwise at first
-    abbrev pub held_tokens : ℕ → ℕ
-    held_tokens c = length (option_map_or (λ rest. rest) (slice_get rests c) (channel_of net c).tokens)
+  -- the label of channel c: its name, and its sort, capacity and tokens if unusual
+  abbrev pub edge_label : List ℕ → List (List Token) → ℕ → List ℕ
+  edge_label capacities rests c =
+      let l = channel_of net c in
+      channel_name net c ++ sort_part l.sort ++ capacity_part l.capacity (last_capacity capacities c l.capacity) ++ held_part (held_tokens rests c l.tokens)
 
-    abbrev pub last_capacity : ℕ → ℕ
-    last_capacity c = option_map_or (λ n. n) (slice_get capacities c) (channel_of net c).capacity
+  -- none if it has the name of a point
+  abbrev pub label_part : List ℕ → List (List Token) → Bool → ℕ → List ℕ
+  label_part capacities rests has_label c = if has_label then edge_label capacities rests c else []
 
-    abbrev pub has_grown : ℕ → Bool
-    has_grown c = not ((channel_of net c).capacity == last_capacity c)
+  abbrev pub has_grown : List ℕ → ℕ → Bool
+  has_grown capacities c = let n = (channel_of net c).capacity in not (n == last_capacity capacities c n)
 
-    -- the label of channel c: its name, and its sort, capacity and tokens if unusual
-    abbrev pub edge_label : ℕ → List ℕ
-    edge_label c = channel_name net c ++ sort_part (channel_of net c).sort ++ capacity_part (channel_of net c).capacity (last_capacity c) ++ held_part (held_tokens c)
+  -- what follows its label: its look, and its ports
+  abbrev pub edge_attributes : List Place → List ℕ → EdgeForm → ℕ → List ℕ
+  edge_attributes places capacities form c =
+      edge_look (is_jammed net places c) (has_grown capacities c) ++ tail_part form.from_point c ++ head_part c
+      ++ link_part form.from_point form.to_point ++ row_part form.has_rows (stays (channel_of net c))
 
-    -- none if it has the name of a point
-    abbrev pub label_part : Bool → ℕ → List ℕ
-    label_part has_label c = if has_label then edge_label c else []
+  abbrev pub formed_line : List Place → List ℕ → List (List Token) → EdgeForm → ℕ → List ℕ
+  formed_line places capacities rests form c =
+      let l = channel_of net c in
+      arrow (process_name net l.writer) (process_name net l.reader) ++ label_part capacities rests form.has_label c ++ codes "\""
+      ++ edge_attributes places capacities form c ++ codes "];\n"
 
-    -- what follows its label: its look, and its ports, but for that of a point which it leads from
-    abbrev pub edge_attributes : EdgeForm → ℕ → List ℕ
-    edge_attributes form c =
-        edge_look (is_jammed net places c) (has_grown c) ++ (if form.from_point then [] else tail_part c) ++ head_part c
-        ++ link_part form.from_point form.to_point ++ row_part form.has_rows (stays (channel_of net c))
-
-    abbrev pub formed_line : EdgeForm → ℕ → List ℕ
-    formed_line form c = edge_opening c ++ label_part form.has_label c ++ codes "\"" ++ edge_attributes form c ++ codes "];\n"
-
-    -- channel c, as an edge from its writer to its reader
-    abbrev pub edge_line : (ℕ → List ℕ × ℕ) → Bool → ℕ → List ℕ
-    edge_line title rows c = formed_line (form_of title rows c) c
+  -- channel c, as an edge from its writer to its reader
+  abbrev pub edge_line : List Place → List ℕ → List (List Token) → (ℕ → List ℕ × ℕ) → Bool → ℕ → List ℕ
+  edge_line places capacities rests title rows c = formed_line places capacities rests (form_of title rows c) c
 
 -- the picture of a network, whose processes may have titles, or of a run that ended like this
 abbrev pub picture : Direction → List (List ℕ) → (ℕ → List ℕ × ℕ) → Network → Option End → List Place → List ℕ → List (List Token) → List ℕ

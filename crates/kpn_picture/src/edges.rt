@@ -1,16 +1,15 @@
 //! Channels, as edges.
-ghost use Rattle.std.specs.Prelude.{◌≡◌, ◌++◌, ◌<◌, [], OnOk, length, string_bytes, if◌then◌else◌};
-ghost use Rattle.kpn_model.specs.Network.{channel_of};
-ghost use Rattle.kpn_model.specs.Waits.{is_jammed};
+ghost use Rattle.std.specs.Prelude.{◌≡◌, ◌++◌, ◌<◌, None, OnOk, length, string_bytes, if◌then◌else◌};
+ghost use Rattle.kpn_model.specs.Network.{out_of};
 ghost use Rattle.kpn_model.specs.texts.Reports.{lines_upto};
-ghost use Rattle.kpn_picture.specs.Picture.{arrow, edge_opening, edge_look, has_grown, capacity_text, capacity_part, held_part, held_tokens, last_capacity, port_part, tail_part, head_part, has_rows, stays, edge_label, edge_attributes, edge_line, form_of, formed_line, label_part, link_part};
+ghost use Rattle.kpn_picture.specs.Picture.{arrow, capacity_text, capacity_part, held_part, held_tokens, last_capacity, port_part, has_rows, edge_attributes, edge_line, form_of, label_part};
 
 use crate::looks::{edge_look, link_part, row_part, sort_part};
 use crate::picture::Left;
 use crate::points::{ends_of, has_name_of_point, is_point};
 use crate::rows::{has_rows, stays};
 use crate::titles::Titled;
-use kpn_model::Kinds;
+use kpn_model::{Kinds, Token};
 use kpn_network::Net;
 use kpn_network::names::{channel_name, process_name};
 use kpn_verdict::is_jammed;
@@ -50,24 +49,22 @@ fn push_held(out: &mut String, tokens: usize) -> Result<(), AllocError>
 }
 
 /// Returns how many tokens a channel holds at the end, if known, otherwise at first.
-fn held_tokens<K: Kinds>(net: &Net<K>, left: &Left<'_>, c: usize) -> usize
-    requires { c < length net.now.channels }
-    ensures { result ≡ held_tokens net.now left.now.places.now left.now.capacities.now left.now.rests.now c }
+fn held_tokens(left: &Left<'_>, c: usize, at_first: &[Token]) -> usize
+    ensures { result ≡ held_tokens left.now.rests.now c at_first.now }
 {
     match left.rests.get(c) {
         Some(rest) => rest.as_slice().len(),
-        None => net.tokens(c).len(),
+        None => at_first.len(),
     }
 }
 
 /// Returns the capacity of a channel at the end, if known, otherwise at first.
-fn last_capacity<K: Kinds>(net: &Net<K>, left: &Left<'_>, c: usize) -> usize
-    requires { c < length net.now.channels }
-    ensures { result ≡ last_capacity net.now left.now.places.now left.now.capacities.now left.now.rests.now c }
+fn last_capacity(left: &Left<'_>, c: usize, at_first: usize) -> usize
+    ensures { result ≡ last_capacity left.now.capacities.now c at_first }
 {
     match left.capacities.get(c) {
         Some(capacity) => *capacity,
-        None => net.capacity(c),
+        None => at_first,
     }
 }
 
@@ -77,38 +74,26 @@ fn push_arrow(out: &mut String, writer: &str, reader: &str) -> Result<(), AllocE
     write!(out, "  \"{writer}\" -> \"{reader}\" [label=\"")
 }
 
-fn push_opening<K: Kinds>(out: &mut String, net: &Net<K>, c: usize) -> Result<(), AllocError>
-    requires { c < length net.now.channels }
-    ensures { OnOk result (string_bytes out.new ≡ string_bytes out.old ++ edge_opening net.now c) }
-{
-    let ends = net.ends(c);
-    let writer = process_name(net, ends.writer);
-    let reader = process_name(net, ends.reader);
-    push_arrow(out, writer, reader)
-}
-
+/// Appends the label of a channel, if it has one.
 fn push_label<K: Kinds>(
     out: &mut String,
     net: &Net<K>,
     left: &Left<'_>,
+    has_label: bool,
     c: usize,
 ) -> Result<(), AllocError>
     requires { c < length net.now.channels }
-    ensures { OnOk result (string_bytes out.new ≡ string_bytes out.old ++ edge_label net.now left.now.places.now left.now.capacities.now left.now.rests.now c) }
+    ensures { OnOk result (string_bytes out.new ≡ string_bytes out.old ++ label_part net.now left.now.capacities.now left.now.rests.now has_label c) }
 {
+    if !has_label {
+        return Ok(());
+    }
+    let capacity = net.capacity(c);
     out.push_str(channel_name(net, c))?;
     out.push_str(sort_part(net.sort(c)))?;
-    push_capacity(out, net.capacity(c), last_capacity(net, left, c))?;
-    push_held(out, held_tokens(net, left, c))?;
+    push_capacity(out, capacity, last_capacity(left, c, capacity))?;
+    push_held(out, held_tokens(left, c, net.tokens(c)))?;
     Ok(())
-}
-
-fn look<K: Kinds>(net: &Net<K>, left: &Left<'_>, c: usize) -> &'static str
-    requires { c < length net.now.channels }
-    ensures { result.now ≡ edge_look (is_jammed net.now left.now.places.now c) (has_grown net.now left.now.places.now left.now.capacities.now left.now.rests.now c) }
-{
-    let has_grown = net.capacity(c) != last_capacity(net, left, c);
-    edge_look(is_jammed(net, left.places, c), has_grown)
 }
 
 /// Does nothing unless the process has a second port.
@@ -126,20 +111,15 @@ fn push_port(
     }
 }
 
-fn push_tail<K: Kinds>(out: &mut String, net: &Net<K>, c: usize) -> Result<(), AllocError>
-    requires { c < length net.now.channels }
-    ensures { OnOk result (string_bytes out.new ≡ string_bytes out.old ++ tail_part net.now c) }
+/// Returns the second output of a channel's writer, unless that is a point.
+fn second_output<K: Kinds>(net: &Net<K>, from_point: bool, writer: usize) -> Option<usize>
+    ensures { result ≡ (if from_point then None else out_of net.now writer 1) }
 {
-    let ends = net.ends(c);
-    push_port(out, "tail", ends.out, net.out_of(ends.writer, 1))
-}
-
-fn push_head<K: Kinds>(out: &mut String, net: &Net<K>, c: usize) -> Result<(), AllocError>
-    requires { c < length net.now.channels }
-    ensures { OnOk result (string_bytes out.new ≡ string_bytes out.old ++ head_part net.now c) }
-{
-    let ends = net.ends(c);
-    push_port(out, "head", ends.input, net.in_of(ends.reader, 1))
+    if from_point {
+        None
+    } else {
+        net.out_of(writer, 1)
+    }
 }
 
 /// The form of an edge: whether the picture has rows, whether the edge leads from a point, and to one, and whether it
@@ -165,41 +145,7 @@ fn form_of<K: Titled>(net: &Net<K>, has_rows: bool, c: usize) -> EdgeForm
     }
 }
 
-/// Appends the label of a channel, if it has one.
-fn push_label_part<K: Kinds>(
-    out: &mut String,
-    net: &Net<K>,
-    left: &Left<'_>,
-    has_label: bool,
-    c: usize,
-) -> Result<(), AllocError>
-    requires { c < length net.now.channels }
-    ensures { OnOk result (string_bytes out.new ≡ string_bytes out.old ++ label_part net.now left.now.places.now left.now.capacities.now left.now.rests.now has_label c) }
-{
-    if has_label {
-        push_label(out, net, left, c)
-    } else {
-        Ok(())
-    }
-}
-
-/// Appends the port that a channel leads from, unless that is a point's.
-fn push_tail_part<K: Kinds>(
-    out: &mut String,
-    net: &Net<K>,
-    from_point: bool,
-    c: usize,
-) -> Result<(), AllocError>
-    requires { c < length net.now.channels }
-    ensures { OnOk result (string_bytes out.new ≡ string_bytes out.old ++ (if from_point then [] else tail_part net.now c)) }
-{
-    if from_point {
-        Ok(())
-    } else {
-        push_tail(out, net, c)
-    }
-}
-
+/// Appends what follows the label of a channel.
 fn push_attributes<K: Kinds>(
     out: &mut String,
     net: &Net<K>,
@@ -208,31 +154,16 @@ fn push_attributes<K: Kinds>(
     c: usize,
 ) -> Result<(), AllocError>
     requires { c < length net.now.channels }
-    ensures { OnOk result (string_bytes out.new ≡ string_bytes out.old ++ edge_attributes net.now left.now.places.now left.now.capacities.now left.now.rests.now form c) }
+    ensures { OnOk result (string_bytes out.new ≡ string_bytes out.old ++ edge_attributes net.now left.now.places.now left.now.capacities.now form c) }
 {
-    out.push_str(look(net, left, c))?;
-    push_tail_part(out, net, form.from_point, c)?;
-    push_head(out, net, c)?;
+    let ends = net.ends(c);
+    let has_grown = net.capacity(c) != last_capacity(left, c, net.capacity(c));
+    let second = second_output(net, form.from_point, ends.writer);
+    out.push_str(edge_look(is_jammed(net, left.places, c), has_grown))?;
+    push_port(out, "tail", ends.out, second)?;
+    push_port(out, "head", ends.input, net.in_of(ends.reader, 1))?;
     out.push_str(link_part(form.from_point, form.to_point))?;
-    out.push_str(row_part(form.has_rows, stays(net, c)))?;
-    Ok(())
-}
-
-fn push_channel<K: Kinds>(
-    out: &mut String,
-    net: &Net<K>,
-    left: &Left<'_>,
-    form: EdgeForm,
-    c: usize,
-) -> Result<(), AllocError>
-    requires { c < length net.now.channels }
-    ensures { OnOk result (string_bytes out.new ≡ string_bytes out.old ++ formed_line net.now left.now.places.now left.now.capacities.now left.now.rests.now form c) }
-{
-    push_opening(out, net, c)?;
-    push_label_part(out, net, left, form.has_label, c)?;
-    out.push_str("\"")?;
-    push_attributes(out, net, left, form, c)?;
-    out.push_str("];\n")?;
+    out.push_str(row_part(form.has_rows, stays(ends)))?;
     Ok(())
 }
 
@@ -247,8 +178,14 @@ fn push_edge<K: Titled>(
     requires { c < length net.now.channels }
     ensures { OnOk result (string_bytes out.new ≡ string_bytes out.old ++ edge_line net.now left.now.places.now left.now.capacities.now left.now.rests.now K.title has_rows c) }
 {
+    let ends = net.ends(c);
     let form = form_of(net, has_rows, c);
-    push_channel(out, net, left, form, c)
+    push_arrow(out, process_name(net, ends.writer), process_name(net, ends.reader))?;
+    push_label(out, net, left, form.has_label, c)?;
+    out.push_str("\"")?;
+    push_attributes(out, net, left, form, c)?;
+    out.push_str("];\n")?;
+    Ok(())
 }
 
 pub(crate) fn push_channels<K: Titled>(

@@ -4,7 +4,7 @@ ghost use Rattle.std.specs.Option.{option_map_or};
 ghost use Rattle.kpn_model.specs.Network.{card_of};
 ghost use Rattle.kpn_model.specs.texts.Reports.{lines_upto};
 ghost use Rattle.kpn_picture.specs.Titles.{below};
-ghost use Rattle.kpn_picture.specs.Picture.{argument_part, box_line, box_opening, box_title, kind_text, place_label, node_line};
+ghost use Rattle.kpn_picture.specs.Picture.{argument_part, box_opening, box_title, kind_text, place_label, node_line};
 
 use crate::looks::{process_look, push_closing};
 use crate::points::{is_point, push_point};
@@ -114,26 +114,12 @@ fn push_process<K: Titled>(
     requires { p < length net.now.processes }
     ensures { OnOk result (string_bytes out.new ≡ string_bytes out.old ++ node_line net.now K.title titles.now places.now p) }
 {
-    if !is_point(net, p) {
-        return push_box(out, net, titles, places, p);
-    }
-    let look = process_look(is_on_cycle(net, places, p), place_at(places, p));
-    push_point(out, process_name(net, p), look)
-}
-
-fn push_box<K: Titled>(
-    out: &mut String,
-    net: &Net<K>,
-    titles: &[Text],
-    places: &[Place],
-    p: usize,
-) -> Result<(), AllocError>
-    requires { p < length net.now.processes }
-    ensures { OnOk result (string_bytes out.new ≡ string_bytes out.old ++ box_line net.now K.title titles.now places.now p) }
-{
     let name = process_name(net, p);
     let place = place_at(places, p);
     let look = process_look(is_on_cycle(net, places, p), place);
+    if is_point(net, p) {
+        return push_point(out, name, look);
+    }
     push_opening(out, name)?;
     push_box_title::<K>(out, &card(net, p), title_at(titles, p))?;
     push_place(out, net, place)?;

@@ -1,9 +1,9 @@
 //! The points at which channels branch.
-ghost use Rattle.std.specs.Prelude.{◌≡◌, ◌<◌, ◌++◌, ◌&&◌, false, OnOk, length, string_bytes};
+ghost use Rattle.std.specs.Prelude.{◌≡◌, ◌<◌, ◌++◌, false, OnOk, length, string_bytes};
 ghost use Rattle.std.specs.Option.{option_map_or};
 ghost use Rattle.kpn_model.specs.Network.{channel_of};
 ghost use Rattle.kpn_picture.specs.Titles.{name_of};
-ghost use Rattle.kpn_picture.specs.Picture.{has_name_of, has_name_of_point, is_copy, is_point, names_channel, point_line, point_opening};
+ghost use Rattle.kpn_picture.specs.Picture.{has_name_of, has_name_of_point, is_copy, is_point, point_line, point_opening};
 
 use crate::looks::push_closing;
 use crate::nodes::card;
@@ -20,7 +20,9 @@ pub(crate) fn is_point<K: Titled>(net: &Net<K>, p: usize) -> bool
     ensures { result ≡ is_point net.now K.title p }
 {
     let title = K::title(&card(net, p));
-    is_copy(title.word, title.number) && names_channel(net, p)
+    let names_channel =
+        names_one(net, p, net.in_of(p, 0)) || names_one(net, p, net.out_of(p, 0));
+    is_copy(title.word, title.number) && names_channel
 }
 
 fn is_copy(word: &str, number: Option<u16>) -> bool
@@ -30,13 +32,6 @@ fn is_copy(word: &str, number: Option<u16>) -> bool
         Some(_) => false,
         None => word == "copy" || word == "copy_flags",
     }
-}
-
-fn names_channel<K: Kinds>(net: &Net<K>, p: usize) -> bool
-    requires { p < length net.now.processes }
-    ensures { result ≡ names_channel net.now p }
-{
-    names_one(net, p, net.in_of(p, 0)) || names_one(net, p, net.out_of(p, 0))
 }
 
 fn names_one<K: Kinds>(net: &Net<K>, p: usize, channel: Option<usize>) -> bool
@@ -54,14 +49,8 @@ pub(crate) fn has_name_of_point<K: Titled>(net: &Net<K>, c: usize) -> bool
     ensures { result ≡ has_name_of_point net.now K.title c }
 {
     let ends = ends_of(net, c);
-    is_point_named(net, ends.writer, c) || is_point_named(net, ends.reader, c)
-}
-
-fn is_point_named<K: Titled>(net: &Net<K>, p: usize, c: usize) -> bool
-    requires { p < length net.now.processes }
-    ensures { result ≡ is_point net.now K.title p && has_name_of net.now p c }
-{
-    is_point(net, p) && has_name_of(net, p, c)
+    is_point(net, ends.writer) && has_name_of(net, ends.writer, c)
+        || is_point(net, ends.reader) && has_name_of(net, ends.reader, c)
 }
 
 /// Returns the two ends of a channel, which are processes.

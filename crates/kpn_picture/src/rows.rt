@@ -1,9 +1,8 @@
 //! The rows of a large picture.
-ghost use Rattle.std.specs.Prelude.{◌≡◌, ◌<◌, length, count_by};
-ghost use Rattle.kpn_model.specs.Network.{channel_of};
-ghost use Rattle.kpn_picture.specs.Picture.{has_rows, is_branch, stays};
+ghost use Rattle.std.specs.Prelude.{◌≡◌, ◌||◌, nat_lt, count_by};
+ghost use Rattle.kpn_picture.specs.Picture.{are_in_a_row, has_rows, is_branch, stays};
 
-use kpn_model::Kinds;
+use kpn_model::{Ends, Kinds};
 use kpn_network::Net;
 
 /// How many processes a row has.
@@ -12,11 +11,10 @@ const ROW: usize = 8;
 /// A picture with up to this many processes has no rows.
 const ONE_ROW: usize = 12;
 
-pub(crate) fn stays<K: Kinds>(net: &Net<K>, c: usize) -> bool
-    requires { c < length net.now.channels }
-    ensures { result ≡ stays (channel_of net.now c) }
+/// Whether a channel stays in a row.
+pub(crate) fn stays(ends: Ends) -> bool
+    ensures { result ≡ are_in_a_row ends.writer ends.reader }
 {
-    let ends = net.ends(c);
     ends.writer / ROW == ends.reader / ROW
 }
 
@@ -25,7 +23,7 @@ fn staying<K: Kinds>(net: &Net<K>) -> usize
 {
     let mut staying = 0;
     for c in 0..net.channels() {
-        if stays(net, c) {
+        if stays(net.ends(c)) {
             staying += 1;
         }
     }
@@ -33,11 +31,9 @@ fn staying<K: Kinds>(net: &Net<K>) -> usize
 }
 
 /// Whether a channel leads from or to another port than the first.
-fn is_branch<K: Kinds>(net: &Net<K>, c: usize) -> bool
-    requires { c < length net.now.channels }
-    ensures { result ≡ is_branch (channel_of net.now c) }
+fn is_branch(ends: Ends) -> bool
+    ensures { result ≡ (nat_lt 0 ends.out || nat_lt 0 ends.input) }
 {
-    let ends = net.ends(c);
     ends.out > 0 || ends.input > 0
 }
 
@@ -46,7 +42,7 @@ fn branches<K: Kinds>(net: &Net<K>) -> usize
 {
     let mut branches = 0;
     for c in 0..net.channels() {
-        if is_branch(net, c) {
+        if is_branch(net.ends(c)) {
             branches += 1;
         }
     }

@@ -8,4 +8,4 @@ returns g c =
     let pushed = pushed_four (string_bytes c.args.out.now) (string_bytes c.push_str.new.self) (string_bytes c.push_str-2.new.self) (string_bytes c.push_capacity.new.out) (string_bytes c.push_held.new.out)
     c.channel_name.result.now c.sort_part.result.now (capacity_part c.capacity.result c.last_capacity.result) (held_part c.held_tokens.result)
     c.in_ok-push_str.ensures.bytes c.in_ok-push_str-2.ensures.bytes c.in_ok-push_capacity.ensures c.in_ok-push_held.ensures in
-    rw (c.channel_name.ensures, c.sort_part.ensures, c.sort.ensures, c.capacity.ensures, c.last_capacity.ensures, c.held_tokens.ensures) at pushed
+    rw (c.channel_name.ensures, c.sort_part.ensures, c.sort.ensures, c.capacity.ensures, c.last_capacity.ensures, c.held_tokens.ensures, c.tokens.ensures) at pushed

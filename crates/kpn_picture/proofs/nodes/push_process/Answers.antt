@@ -2,7 +2,7 @@ use Rattle.std.proofs.Common.{[], string_bytes}
 use Rattle.std.specs.Option.{option_map_or}
 use Rattle.kpn_picture.specs.Picture.{box_opening, box_title, place_label, closing}
 use Rattle.kpn_picture.proofs.Parts.{pushed_four}
-use Rattle.kpn_picture.proofs.nodes.push_box.Goals as goal
+use Rattle.kpn_picture.proofs.nodes.push_process.Goals as goal
 
 pub returns : goal.returns
 returns g c =
