@@ -3,7 +3,7 @@ ghost use Rattle.std.specs.Prelude.{◌≡◌, IsSome};
 
 use kpn_model::{Answer, Card, Kinds, Local, Token};
 
-/// The code that answers for the processes of one card.
+/// The code that answers for a process, and the card of that process.
 ///
 /// A body returns its family's answer for its card. So what a process does depends only on what it has read
 /// (Kahn 1974), not on when or how often the body is called, nor on other processes. A call may take any time,
