@@ -1,5 +1,5 @@
 -- The name of a formula's kind means it.
-use Rattle.std.proofs.Common.{◌≡◌, inl, ℕ, ◌<◌, ◌^◌, Bool, true, false, ◌&&◌, if◌then◌else◌, Option, Some, None, IsSome, option_map, refl, sym, subst}
+use Rattle.std.proofs.Common.{◌≡◌, inl, ℕ, ◌<◌, ◌^◌, Bool, true, false, ◌&&◌, if◌then◌else◌, Option, Some, None, IsSome, option_map, refl, subst}
 use Rattle.kpn_model.specs.declared.kinds.Card.{Card}
 use Rattle.kpn_model.specs.declared.kinds.Signature.{Signature}
 use Rattle.kpn_formula.specs.declared.shape.Shape.{Shape}
