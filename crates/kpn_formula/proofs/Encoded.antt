@@ -1,12 +1,12 @@
 -- The card that an encoder makes.
-use Rattle.std.proofs.Common.{◌≡◌, ◌∙◌, ℕ, ◌+◌, ◌-◌, ◌<◌, ◌≤◌, ◌==◌, if◌then◌else◌, Bool, true, false, List, [], ◌∷◌, ◌++◌, length, replicate, All, Some, None, refl, ap, arith}
+use Rattle.std.proofs.Common.{◌≡◌, ◌∙◌, ℕ, ◌-◌, ◌≤◌, if◌then◌else◌, Bool, true, false, List, [], ◌∷◌, ◌++◌, length, replicate, All, Some, None, refl, ap, arith}
 use Rattle.std.proofs.lemmas.List.{append_assoc, length-append, length-replicate}
 use Rattle.std.proofs.lemmas.List.Elements.{All-append, All-cons, All-nil, All-replicate}
 use Rattle.kpn_formula.specs.declared.shape.Shape.{Shape}
 use Rattle.kpn_formula.specs.declared.instruction.Instruction.{Instruction}
 use Rattle.kpn_formula.specs.Cards.{digits, instructions, before_end, after_end}
 use Rattle.kpn_formula.specs.Shapes.{number_of, is_allowed}
-use Rattle.kpn_formula.specs.Encoding.{AreEncodable, IsCardOf, size, opening_size, digits_needed}
+use Rattle.kpn_formula.specs.Encoding.{AreEncodable, IsCardOf, opening_size, digits_needed}
 use Rattle.kpn_formula.specs.Spelling.{IsDigit, spelling, opening_digits, spelling_of, filled, args_of}
 use Rattle.kpn_formula.proofs.Spelled.{spelling_length, spelling_are_digits, lone_round, no_opening, round_of_both, opening_of_both}
 use Rattle.kpn_formula.proofs.Packed.{digits_packed, packed_has_digits}
@@ -34,21 +34,6 @@ round_read round (i ∷ is) n fits opens = round_of_both round (i ∷ is) n fits
 opening_read : (round opening : List Instruction) (n : ℕ) → AreEncodable round → AreEncodable opening → before_end (after_end (instructions 0 (spelling round ++ (opening_digits opening ++ replicate n 0)))) ≡ opening
 opening_read round [] n fits opens = no_opening round n fits
 opening_read round (i ∷ is) n fits opens = opening_of_both round (i ∷ is) n fits opens
-
--- beside an opening there is room for the round and an End
-both_fit : (round opening : List Instruction) → digits_needed round opening ≤ 36 → (length opening == 0) ≡ false → size round + 1 + size opening ≤ 36
-both_fit round [] room some = cc
-both_fit round (i ∷ is) room some = omega (arith, room)
-
-module _ (round opening : List Instruction) (start tape longer : List ℕ) (start_is : start ≡ []) (tape_is : tape ≡ start ++ spelling round) (room : digits_needed round opening ≤ 36) (some : (length opening == 0) ≡ false) where
-  pub end_fits : length tape < 36
-  end_fits = let fits = both_fit round opening room some in let long : length tape ≡ size round = rw (tape_is, start_is) (spelling_length round) in omega (arith, fits)
-
-  pub opening_fits : longer ≡ tape ++ (0 ∷ []) → length longer + size opening ≤ 36
-  opening_fits longer_is =
-      let fits = both_fit round opening room some in
-      let long : length tape ≡ size round = rw (tape_is, start_is) (spelling_length round) in
-      omega (arith, fits, ap length longer_is, length-append tape (0 ∷ []))
 
 number_if : (allowed : Bool) (number kind : ℕ) → Some kind ≡ (if allowed then Some number else None) → (allowed ≡ true) × (kind ≡ number)
 number_if true number kind is = (refl, cc)

@@ -10,7 +10,7 @@ use Rattle.kpn_formula.specs.declared.instruction.Instruction.{Instruction}
 use Rattle.kpn_formula.specs.Programs.{Working, executed, run, values_after}
 use Rattle.kpn_formula.specs.Cards.{before_end, is_end, instruction, digits, operands}
 use Rattle.kpn_formula.specs.Reading.{program_at, HoldsFrom, IsCode, first_three, behind_operands}
-use Rattle.kpn_formula.specs.Running.{AreZeros, IsSame, RunsFrom, passed, working}
+use Rattle.kpn_formula.specs.Running.{HasRoom, IsSame, PushesOne, RunsFrom, passed, working}
 use Rattle.kpn_formula.proofs.Held.{ends, stands, moved_one, same_instruction, behind_held}
 use Rattle.kpn_formula.proofs.Stacks.{run_same, zeros_at}
 
@@ -47,9 +47,7 @@ module _ (card : Card) (n : ℕ) (w : Working) (values : List ℕ) (left : IsLef
 
 -- a program runs: a number holds the digits that are left, of which there are fewer than there is room
 pub record IsRunning (size n : ℕ) (start words : List ℕ) (top : ℕ) (values : List ℕ) (v m : ℕ) : Type 0 where
-  pub within : top < size
-  pub room : 0 < top
-  pub zeros : AreZeros (size - 1) words
+  pub stack : HasRoom size words top
   pub short : m < 32 ^ (top - 1)
   pub left : (card : Card) (p : ℕ) → HoldsFrom card p n → IsLeft card m (working words top values v) (values_after (before_end (program_at card p)) (take 6 start))
 
@@ -60,9 +58,7 @@ none_pushed size (suc k) = get_or-drop (size - 1) (replicate size 0) k 0 ∙ zer
 pub starts_running : (size n : ℕ) (values : List ℕ) → 2 ≤ size → n < 32 ^ (size - 2) → IsRunning size n values (replicate size 0) (size - 1) values 0 n
 starts_running size n values some small =
     record {
-      within = omega (arith, some);
-      room = omega (arith, some);
-      zeros = λ k past. zeros_at size k;
+      stack = record { room = omega (arith, some); within = omega (arith, some); zeros = λ k past. zeros_at size k };
       short = subst (λ k. n < 32 ^ k) (omega (arith, some)) small;
       left = λ card p held. record {
         place = p;
@@ -103,15 +99,13 @@ module _ (size n : ℕ) (start words : List ℕ) (top : ℕ) (values : List ℕ)
   pub keeps_running :
       (code ≡ 0 → ⊥) → (rest top' v' : ℕ) (words' values' : List ℕ)
       → IsSame (executed (instruction code (first_three (m / 32))) (working words top values v)) (working words' top' values' v')
-      → rest ≡ passed code m → top ≤ top' + 1 → top' < size → AreZeros (size - 1) words' → IsRunning size n start words' top' values' v' rest
-  keeps_running some rest top' v' words' values' same behind room within zeros =
+      → rest ≡ passed code m → PushesOne size top words' top' → IsRunning size n start words' top' values' v' rest
+  keeps_running some rest top' v' words' values' same behind stack =
       let behind_it : rest ≡ behind_operands code (m / 32) = behind ∙ passes code m some in
       let enough = has_room top m (some_left some) running.short in
       record {
-        within = within;
-        room = omega (arith, enough, room);
-        zeros = zeros;
-        short = stays_short (top - 2) (top' - 1) m rest (subst (λ k. m < 32 ^ k) (omega (arith, enough)) running.short) (omega (arith, behind_it, shorter code (m / 32))) (omega (arith, room));
+        stack = record { room = omega (arith, enough, stack.room); within = stack.within; zeros = stack.zeros };
+        short = stays_short (top - 2) (top' - 1) m rest (subst (λ k. m < 32 ^ k) (omega (arith, enough)) running.short) (omega (arith, behind_it, shorter code (m / 32))) (omega (arith, stack.room));
         left = λ card p held. runs_on card m (working words top values v) _ (running.left card p held) code (record { is = is; small = omega (arith, is); goes_on = some }) (working words' top' values' v') rest same behind_it;
       }
 

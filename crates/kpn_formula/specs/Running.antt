@@ -1,5 +1,5 @@
 -- What a stack in an array stands for.
-use Rattle.std.specs.Prelude.{◌≡◌, ℕ, zero, suc, ◌+◌, ◌/◌, ◌≤◌, List, ◌∷◌, [], take, drop, set}
+use Rattle.std.specs.Prelude.{◌≡◌, ℕ, zero, suc, ◌+◌, ◌-◌, ◌/◌, ◌<◌, ◌≤◌, List, ◌∷◌, [], take, drop, set}
 use Rattle.kpn_model.specs.declared.kinds.Card.{Card}
 use Rattle.kpn_standard.specs.Locals.{at}
 use Rattle.kpn_formula.specs.Programs.{Working, last, values_after}
@@ -13,6 +13,18 @@ working words top values v = record { values = take 6 values; stack = v ∷ drop
 -- from a place on there are zeros
 abbrev pub AreZeros : ℕ → List ℕ → Type 0
 AreZeros n words = (k : ℕ) → n ≤ k → at words k ≡ 0
+
+-- an array has room for a word below a place, and ends with a zero
+pub record HasRoom (size : ℕ) (words : List ℕ) (top : ℕ) : Type 0 where
+  pub room : 0 < top
+  pub within : top < size
+  pub zeros : AreZeros (size - 1) words
+
+-- the stack grew by at most a word, and its array still ends with a zero
+pub record PushesOne (size before : ℕ) (words : List ℕ) (top : ℕ) : Type 0 where
+  pub room : before ≤ top + 1
+  pub within : top < size
+  pub zeros : AreZeros (size - 1) words
 
 -- the same values, and the same words on the stack, whatever zeros stand there
 pub record IsSame (w v : Working) : Type 0 where

@@ -1,7 +1,7 @@
 //! Cards that hold given programs.
 ghost use Rattle.std.specs.Prelude.{◌≡◌, ◌<◌, ◌≤◌, ◌+◌, ◌-◌, ◌^◌, ℕ, List, [], ◌∷◌, ◌++◌, All, length, take, drop, replicate, MatchResult};
 ghost use Rattle.kpn_formula.specs.Encoding.{AreEncodable, IsEncodable, IsCardOf, IsExcess, digits_needed, opening_size, size, width};
-ghost use Rattle.kpn_formula.specs.Spelling.{IsDigit, code_of, spelled, spelling, short_digits, packed, args_of, filled, spelling_of};
+ghost use Rattle.kpn_formula.specs.Spelling.{IsDigit, code_of, spelled, spelling, short_digits, packed, args_of, filled, opening_digits};
 
 use crate::instruction::{Instruction, Operation};
 use crate::shape::Shape;
@@ -102,6 +102,18 @@ impl Tape {
         }
     }
 
+    /// Writes an End and an opening, if there is one.
+    fn write_opening(&mut self, opening: &[Instruction])
+        requires encodable { AreEncodable opening.now }
+        requires room { length self.old + opening_size opening.now ≤ 36 }
+        ensures { self.new ≡ self.old ++ opening_digits opening.now }
+    {
+        if !opening.is_empty() {
+            self.push(0);
+            self.write_all(opening);
+        }
+    }
+
     /// Returns the arguments of a card with these digits, and zeros behind them.
     fn args(&self) -> [u64; 3]
         ensures { result ≡ args_of (filled self.now) }
@@ -164,24 +176,11 @@ pub fn card_of(shape: Shape, round: &[Instruction], opening: &[Instruction]) -> 
     if needed > 36 {
         return Err(Excess::Digits { by: needed - 36 });
     }
-    let args = written(round, opening);
-    Ok(Card { kind, args })
-}
-
-/// Returns the arguments of a card with these programs, for which it has room.
-fn written(round: &[Instruction], opening: &[Instruction]) -> [u64; 3]
-    requires round { AreEncodable round.now }
-    requires opening { AreEncodable opening.now }
-    requires room { digits_needed round.now opening.now ≤ 36 }
-    ensures { result ≡ args_of (filled (spelling_of round.now opening.now)) }
-{
     let mut tape = Tape::new();
     tape.write_all(round);
-    if !opening.is_empty() {
-        tape.push(0);
-        tape.write_all(opening);
-    }
-    tape.args()
+    tape.write_opening(opening);
+    let args = tape.args();
+    Ok(Card { kind, args })
 }
 
 fn opening_size(opening: &[Instruction]) -> usize

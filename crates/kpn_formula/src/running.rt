@@ -1,13 +1,13 @@
 //! Runs the programs of cards.
 ghost use Rattle.std.specs.Prelude.{true, ◌≡◌, ◌<◌, ◌≤◌, ◌+◌, ◌-◌, ◌*◌, ◌/◌, ◌^◌, ◌==◌, ℕ, length, take, set, min, not};
 ghost use Rattle.kpn_standard.specs.Locals.{at};
-ghost use Rattle.kpn_formula.specs.declared.instruction.Instruction.TheVariants.{Apply};
 ghost use Rattle.kpn_formula.specs.Programs.{executed, chosen, values_after};
 ghost use Rattle.kpn_formula.specs.Cards.{after_end, before_end, instruction};
 ghost use Rattle.kpn_formula.specs.Reading.{IsReadable, first_three, program_at};
-ghost use Rattle.kpn_formula.specs.Running.{AreZeros, IsSame, RunsFrom, passed, working};
+ghost use Rattle.kpn_formula.specs.Running.{HasRoom, IsSame, PushesOne, RunsFrom, passed, working};
 
-use crate::instruction::{Instruction, Operation};
+use crate::instruction::Instruction::{self, Apply};
+use crate::instruction::Operation;
 use crate::operations::applied;
 use crate::reading::{Cursor, code_at, operands};
 use kpn_model::Card;
@@ -57,21 +57,19 @@ impl Stack {
         word
     }
 
+    /// Executes an instruction, and returns true.
     #[inline(always)]
-    fn execute<const N: usize>(
+    fn does<const N: usize>(
         &mut self,
         words: &mut [u64; N],
         values: &mut [u64; 16],
         instruction: Instruction,
-    )
+    ) -> bool
         requires readable { IsReadable instruction }
-        requires room { 0 < self.old.top }
-        requires within { self.old.top < N }
-        requires zeros { AreZeros (N - 1) words.old }
+        requires stack { HasRoom N words.old self.old.top }
         ensures is { IsSame (executed instruction (working words.old self.old.top values.old self.old.last)) (working words.new self.new.top values.new self.new.last) }
-        ensures room { self.old.top ≤ self.new.top + 1 }
-        ensures within { self.new.top < N }
-        ensures zeros { AreZeros (N - 1) words.new }
+        ensures stack { PushesOne N self.old.top words.new self.new.top }
+        ensures goes_on { result ≡ true }
     {
         match instruction {
             Instruction::End => {}
@@ -95,53 +93,7 @@ impl Stack {
                 self.last = self.pop(words);
             }
         }
-    }
-
-    /// Executes an instruction, and returns true.
-    #[inline(always)]
-    fn does<const N: usize>(
-        &mut self,
-        words: &mut [u64; N],
-        values: &mut [u64; 16],
-        instruction: Instruction,
-    ) -> bool
-        requires readable { IsReadable instruction }
-        requires room { 0 < self.old.top }
-        requires within { self.old.top < N }
-        requires zeros { AreZeros (N - 1) words.old }
-        ensures is { IsSame (executed instruction (working words.old self.old.top values.old self.old.last)) (working words.new self.new.top values.new self.new.last) }
-        ensures room { self.old.top ≤ self.new.top + 1 }
-        ensures within { self.new.top < N }
-        ensures zeros { AreZeros (N - 1) words.new }
-        ensures goes_on { result ≡ true }
-    {
-        self.execute(words, values, instruction);
         true
-    }
-}
-
-impl Stack {
-    /// Applies an operation, passes its code, and returns true.
-    #[inline(always)]
-    fn apply<const N: usize>(
-        &mut self,
-        words: &mut [u64; N],
-        values: &mut [u64; 16],
-        cursor: &mut Cursor,
-        op: Operation,
-    ) -> bool
-        requires room { 0 < self.old.top }
-        requires within { self.old.top < N }
-        requires zeros { AreZeros (N - 1) words.old }
-        ensures is { IsSame (executed (Apply op) (working words.old self.old.top values.old self.old.last)) (working words.new self.new.top values.new self.new.last) }
-        ensures rest { cursor.new ≡ cursor.old / 32 }
-        ensures room { self.old.top ≤ self.new.top + 1 }
-        ensures within { self.new.top < N }
-        ensures zeros { AreZeros (N - 1) words.new }
-        ensures goes_on { result ≡ true }
-    {
-        let instruction = cursor.alone(Instruction::Apply(op));
-        self.does(words, values, instruction)
     }
 
     /// Executes the instruction of a code, and passes both; returns false at the code of an End.
@@ -154,14 +106,10 @@ impl Stack {
         cursor: &mut Cursor,
     ) -> bool
         requires code { code < 32 }
-        requires room { 0 < self.old.top }
-        requires within { self.old.top < N }
-        requires zeros { AreZeros (N - 1) words.old }
+        requires stack { HasRoom N words.old self.old.top }
         ensures is { IsSame (executed (instruction code (first_three (cursor.old / 32))) (working words.old self.old.top values.old self.old.last)) (working words.new self.new.top values.new self.new.last) }
         ensures rest { cursor.new ≡ passed code cursor.old }
-        ensures room { self.old.top ≤ self.new.top + 1 }
-        ensures within { self.new.top < N }
-        ensures zeros { AreZeros (N - 1) words.new }
+        ensures stack { PushesOne N self.old.top words.new self.new.top }
         ensures goes_on { result ≡ not (code == 0) }
     {
         match code {
@@ -173,19 +121,19 @@ impl Stack {
             5 => self.does(words, values, cursor.alone(Instruction::Not)),
             6 => self.does(words, values, cursor.alone(Instruction::Abs)),
             7 => self.does(words, values, cursor.alone(Instruction::Choose)),
-            8 => self.apply(words, values, cursor, Operation::Add),
-            9 => self.apply(words, values, cursor, Operation::Subtract),
-            10 => self.apply(words, values, cursor, Operation::Multiply),
-            11 => self.apply(words, values, cursor, Operation::Divide),
-            12 => self.apply(words, values, cursor, Operation::Remain),
-            13 => self.apply(words, values, cursor, Operation::ShiftLeft),
-            14 => self.apply(words, values, cursor, Operation::ShiftRight),
-            15 => self.apply(words, values, cursor, Operation::And),
-            16 => self.apply(words, values, cursor, Operation::Or),
-            17 => self.apply(words, values, cursor, Operation::ExclusiveOr),
-            18 => self.apply(words, values, cursor, Operation::Min),
-            19 => self.apply(words, values, cursor, Operation::Max),
-            20 => self.apply(words, values, cursor, Operation::IsLess),
+            8 => self.does(words, values, cursor.alone(Apply(Operation::Add))),
+            9 => self.does(words, values, cursor.alone(Apply(Operation::Subtract))),
+            10 => self.does(words, values, cursor.alone(Apply(Operation::Multiply))),
+            11 => self.does(words, values, cursor.alone(Apply(Operation::Divide))),
+            12 => self.does(words, values, cursor.alone(Apply(Operation::Remain))),
+            13 => self.does(words, values, cursor.alone(Apply(Operation::ShiftLeft))),
+            14 => self.does(words, values, cursor.alone(Apply(Operation::ShiftRight))),
+            15 => self.does(words, values, cursor.alone(Apply(Operation::And))),
+            16 => self.does(words, values, cursor.alone(Apply(Operation::Or))),
+            17 => self.does(words, values, cursor.alone(Apply(Operation::ExclusiveOr))),
+            18 => self.does(words, values, cursor.alone(Apply(Operation::Min))),
+            19 => self.does(words, values, cursor.alone(Apply(Operation::Max))),
+            20 => self.does(words, values, cursor.alone(Apply(Operation::IsLess))),
             21 => self.does(words, values, cursor.alone(Instruction::Load(0))),
             22 => self.does(words, values, cursor.alone(Instruction::Load(1))),
             23 => self.does(words, values, cursor.alone(Instruction::Load(2))),

@@ -1,14 +1,14 @@
 -- What the kinds write and keep are words.
-use Rattle.std.proofs.Common.{◌≡◌, ◌∙◌, ℕ, zero, suc, ◌<◌, ◌≤◌, ◌/◌, ◌^◌, ◌==◌, Bool, true, false, if◌then◌else◌, ℤ, pos, negsuc, ◌+ℤ◌, ◌-ℤ◌, ◌*ℤ◌, List, [], ◌∷◌, refl, subst, sym, ap, arith}
+use Rattle.std.proofs.Common.{◌≡◌, ◌∙◌, ℕ, zero, suc, ◌<◌, ◌/◌, ◌^◌, ◌==◌, Bool, true, false, if◌then◌else◌, ℤ, pos, negsuc, ◌+ℤ◌, ◌-ℤ◌, List, [], ◌∷◌, refl, subst, sym, ap, arith}
 use Rattle.std.specs.Prelude.{FitsSigned, unsigned_abs}
 use Rattle.std.specs.Int.{w64, w128, int_shr}
 use Rattle.std.specs.Int.Signed.{shr_z, mag_shr}
-use Rattle.std.proofs.lemmas.Int.{ints, clamps, to_z-of_z, fits_signed_from_abs, fits_signed_mul}
+use Rattle.std.proofs.lemmas.Int.{ints, clamps, to_z-of_z}
 use mir.Val.{to_z, of_z}
 use Rattle.std.proofs.lemmas.Nat.{shr_le, xor_lt}
 use Rattle.kpn_standard.specs.Locals.{at, IsLocal}
 use Rattle.kpn_signals.specs.Words.{signed, word_of, wrapped, floor_div, word_below, bound}
-use Rattle.kpn_signals.specs.Arithmetic.{right_shift, least, greatest, amplified, quotient}
+use Rattle.kpn_signals.specs.Arithmetic.{right_shift, least, greatest, quotient}
 use Rattle.kpn_signals.specs.Noise.{shaken, mixed}
 use Rattle.kpn_signals.specs.Filters.{next_level, nearest}
 
@@ -104,9 +104,6 @@ difference_fits x y x_fits y_fits = omega (arith, ints)
 abbrev wide : ℤ → ℤ
 wide z = to_z w128 (of_z w128 z)
 
-wide_difference : (x y : ℤ) → FitsSigned w64 x → FitsSigned w64 y → FitsSigned w128 (wide x -ℤ wide y)
-wide_difference x y x_fits y_fits = rw (to_z-of_z w128 x (wider x x_fits), to_z-of_z w128 y (wider y y_fits)) (difference_fits x y x_fits y_fits)
-
 -- with 128 bits each number on the way from y towards x is exact
 wide_sum : (x y : ℤ) (k : ℕ) → FitsSigned w64 x → FitsSigned w64 y → wide y +ℤ wide (shr_z (wide (wide x -ℤ wide y)) (2 ^ k)) ≡ y +ℤ int_shr (x -ℤ y) k
 wide_sum x y k x_fits y_fits =
@@ -132,43 +129,8 @@ module _ (k level word : ℕ) (level_small : level < 2 ^ 64) (word_small : word 
       let towards = from_signed word b x word_small b_is x_is in
       rw (from, towards) (wide_level (signed word) (signed level) k (signed_fits word word_small) (signed_fits level level_small))
 
-  pub difference_fits_wide : FitsSigned w128 (wide x -ℤ wide y)
-  difference_fits_wide =
-      let from = from_signed level a y level_small a_is y_is in
-      let towards = from_signed word b x word_small b_is x_is in
-      rw (from, towards) (wide_difference (signed word) (signed level) (signed_fits word word_small) (signed_fits level level_small))
-
-  pub sum_fits_wide : FitsSigned w128 (wide y +ℤ wide (shr_z (wide (wide x -ℤ wide y)) (2 ^ k)))
-  sum_fits_wide =
-      let from = from_signed level a y level_small a_is y_is in
-      let towards = from_signed word b x word_small b_is x_is in
-      let x_fits = signed_fits word word_small in
-      let y_fits = signed_fits level level_small in
-      rw (from, towards, wide_sum (signed word) (signed level) k x_fits y_fits) (level_fits (signed word) (signed level) k x_fits y_fits)
-
   pub level_casts : FitsSigned w64 (wide (wide y +ℤ wide (shr_z (wide (wide x -ℤ wide y)) (2 ^ k))))
   level_casts = subst (λ (z : ℤ). FitsSigned w64 z) (sym exact) next_fits
 
   pub level_is : (r : ℕ) → r ≡ of_z w64 (to_z w64 (of_z w64 (wide (wide y +ℤ wide (shr_z (wide (wide x -ℤ wide y)) (2 ^ k)))))) → r ≡ next_level k level word
   level_is r is = is ∙ ap (λ (z : ℤ). of_z w64 (to_z w64 (of_z w64 z))) exact ∙ ap (λ (z : ℤ). of_z w64 z) (to_z-of_z w64 _ next_fits)
-
--- a product of two words that were cast is exact
-wide_product : (x y : ℤ) → unsigned_abs x ≤ 2 ^ 63 → unsigned_abs y ≤ 2 ^ 63 → wide (wide x *ℤ wide y) ≡ x *ℤ y
-wide_product x y x_small y_small =
-    let x_fits = fits_signed_from_abs w128 x (omega arith) in
-    let y_fits = fits_signed_from_abs w128 y (omega arith) in
-    rw (to_z-of_z w128 x x_fits, to_z-of_z w128 y y_fits) (to_z-of_z w128 (x *ℤ y) (fits_signed_mul w128 x y (2 ^ 63) (2 ^ 63) x_small y_small (omega arith)))
-
--- so the product, divided, is what is defined
-pub amplified_is :
-    (a b w : ℕ) (x y n q : ℤ) (r : ℕ) → x ≡ signed w → unsigned_abs x ≤ 2 ^ 63 → y ≡ signed a → unsigned_abs y ≤ 2 ^ 63 → n ≡ pos b → FitsSigned w128 n
-    → q ≡ floor_div (wide (wide x *ℤ wide y)) (wide n) → FitsSigned w128 q → r ≡ wrapped (wide q) → r ≡ amplified a b w
-amplified_is a b w x y n q r x_is x_small y_is y_small n_is n_fits q_is q_fits r_is =
-    r_is
-    ∙ ap (λ (z : ℤ). wrapped z) (to_z-of_z w128 q q_fits)
-    ∙ ap (λ (z : ℤ). wrapped z) q_is
-    ∙ ap (λ (z : ℤ). wrapped (floor_div z (wide n))) (wide_product x y x_small y_small)
-    ∙ ap (λ (z : ℤ). wrapped (floor_div (x *ℤ y) z)) (to_z-of_z w128 n n_fits)
-    ∙ ap (λ (z : ℤ). wrapped (floor_div (x *ℤ y) z)) n_is
-    ∙ ap (λ (z : ℤ). wrapped (floor_div (z *ℤ y) (pos b))) x_is
-    ∙ ap (λ (z : ℤ). wrapped (floor_div (signed w *ℤ z) (pos b))) y_is

@@ -2,7 +2,7 @@
 ghost use Rattle.std.specs.Prelude.{◌≡◌, ◌<◌, ◌≤◌, ◌^◌, ◌≢◌, pos, unsigned_abs};
 ghost use Rattle.kpn_signals.specs.Shapes.{step_answer, join_answer};
 ghost use Rattle.kpn_signals.specs.Words.{signed};
-ghost use Rattle.kpn_signals.specs.Arithmetic.{sub_join, mul_join, scale_step, shift_step, left_step, min_join, max_join, abs_step, offset_step, amplified, gain_step, div_join, mod_join};
+ghost use Rattle.kpn_signals.specs.Arithmetic.{sub_join, mul_join, scale_step, shift_step, left_step, min_join, max_join, abs_step, offset_step, gain_step, div_join, mod_join};
 
 use crate::turns::{joined, latest, reads, word, writes_word};
 use crate::wide::{floor_div, signed, wrapped};
@@ -103,16 +103,11 @@ pub(crate) fn gain(factor: u64, divisor: u64, local: Local, last: Option<Token>)
 {
     match last {
         None => reads(local),
-        Some(token) => writes_word(local, amplified(factor, divisor, word(token))),
+        Some(token) => {
+            let product = signed(word(token)) * signed(factor);
+            writes_word(local, wrapped(floor_div(product, i128::from(divisor))))
+        }
     }
-}
-
-fn amplified(factor: u64, divisor: u64, word: u64) -> u64
-    requires { 0 < divisor }
-    ensures { result ≡ amplified factor divisor word }
-{
-    let product = signed(word) * signed(factor);
-    wrapped(floor_div(product, i128::from(divisor)))
 }
 
 /// Reads two words, and writes the first divided by the second, rounded down, signed, forever: 0 if the

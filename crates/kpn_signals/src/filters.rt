@@ -2,7 +2,7 @@
 ghost use Rattle.std.specs.Prelude.{◌≡◌, ◌<◌, ◌≤◌, ◌≤ℤ◌, length};
 ghost use Rattle.kpn_signals.specs.Words.{signed};
 ghost use Rattle.kpn_signals.specs.Shapes.{step_answer, join_answer};
-ghost use Rattle.kpn_signals.specs.Filters.{hold_join, delay_step, next_level, low_pass_step, nearest, clip_step, sum_step, difference_step, signed_sum, mean, average_step, counter_step};
+ghost use Rattle.kpn_signals.specs.Filters.{hold_join, delay_step, low_pass_step, clip_step, sum_step, difference_step, signed_sum, mean, average_step, counter_step};
 
 use crate::turns::{flag, joined, latest, number, reads, word, writes_word};
 use crate::wide::{floor_div, signed, wrapped};
@@ -41,21 +41,13 @@ pub(crate) fn low_pass(bits: u64, local: Local, last: Option<Token>) -> Answer
     match last {
         None => reads(local),
         Some(token) => {
-            let [level, _, _, _] = local;
-            let next = next_level(bits, level, word(token));
+            let level = i128::from(local[0].cast_signed());
+            let word = i128::from(word(token).cast_signed());
+            let next = level + ((word - level) >> bits);
+            let next = (next as i64).cast_unsigned();
             writes_word([next, 0, 0, 0], next)
         }
     }
-}
-
-fn next_level(bits: u64, level: u64, word: u64) -> u64
-    requires { bits < 64 }
-    ensures { result ≡ next_level bits level word }
-{
-    let level = i128::from(level.cast_signed());
-    let word = i128::from(word.cast_signed());
-    let next = level + ((word - level) >> bits);
-    (next as i64).cast_unsigned()
 }
 
 /// Reads a word, and writes the nearest one from `least` to `greatest`, as signed numbers, forever.
@@ -65,17 +57,12 @@ pub(crate) fn clip(least: u64, greatest: u64, local: Local, last: Option<Token>)
 {
     match last {
         None => reads(local),
-        Some(token) => writes_word(local, nearest(least, greatest, word(token))),
+        Some(token) => {
+            let word = word(token).cast_signed();
+            let nearest = word.clamp(least.cast_signed(), greatest.cast_signed());
+            writes_word(local, nearest.cast_unsigned())
+        }
     }
-}
-
-fn nearest(least: u64, greatest: u64, word: u64) -> u64
-    requires { signed least ≤ℤ signed greatest }
-    ensures { result ≡ nearest least greatest word }
-{
-    let word = word.cast_signed();
-    word.clamp(least.cast_signed(), greatest.cast_signed())
-        .cast_unsigned()
 }
 
 /// Reads a word, and writes the sum of all words so far, modulo 2^64, forever.

@@ -9,13 +9,13 @@ loop-stack-init g c =
     (starts_running g.row.N n c.args.values.now c.requires.some c.requires.short)
 
 pub perform-requires : goal.perform-requires
-perform-requires g c = (omega (arith, c.requires.few), (omega (arith, c.code.ensures), (c.loop-stack.invariant.room, (c.loop-stack.invariant.within, c.loop-stack.invariant.zeros))))
+perform-requires g c = (omega (arith, c.requires.few), (omega (arith, c.code.ensures), c.loop-stack.invariant.stack))
 
 pub loop-stack-preserved : goal.loop-stack-preserved
 loop-stack-preserved g c =
     keeps_running g.row.N _ c.args.values.now c.loop-stack.words c.loop-stack.stack.top c.loop-stack.values c.loop-stack.stack.last c.loop-stack.cursor c.loop-stack.invariant c.code.result c.code.ensures
     (goes_on c.code.result c.perform.result c.perform.ensures.goes_on c.loop-stack-test.true)
-    c.perform.new.cursor c.perform.new.self.top c.perform.new.self.last c.perform.new.words c.perform.new.values c.perform.ensures.is c.perform.ensures.rest c.perform.ensures.room c.perform.ensures.within c.perform.ensures.zeros
+    c.perform.new.cursor c.perform.new.self.top c.perform.new.self.last c.perform.new.words c.perform.new.values c.perform.ensures.is c.perform.ensures.rest c.perform.ensures.stack
 
 pub returns : goal.returns
 returns g c =
