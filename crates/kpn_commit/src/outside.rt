@@ -11,11 +11,11 @@ ghost use Rattle.kpn_commit.specs.Coherent.{IsCoherent, IsCoherentBut};
 ghost use Rattle.kpn_commit.specs.Answering.{OnlyWakes};
 
 use crate::cores::Core;
-use crate::parking::unpark;
+use crate::parking::unlist;
 use kpn_model::{Act, Kinds, Token};
 use kpn_network::Net;
 use kpn_state::standing::parked;
-use kpn_state::{Keeper, Store};
+use kpn_state::{Keeper, Standing, Store};
 
 fn can_do<K: Kinds, H: Keeper>(net: &Net<K>, store: &Store<H>, process: usize, act: Act) -> bool
     requires { length store.now.state.channels ≡ length net.now.channels }
@@ -41,7 +41,8 @@ fn can_do<K: Kinds, H: Keeper>(net: &Net<K>, store: &Store<H>, process: usize, a
     }
 }
 
-/// Makes a process ready if it is parked and can continue. No other parked process can.
+/// Makes a process ready if it is parked and can continue. No other parked process can. Removes its mark and its
+/// candidate.
 fn wake<K: Kinds, H: Keeper>(net: &Net<K>, core: &mut Core<H>, process: usize)
     requires coherent { IsCoherentBut (family K.Kinds) K.admits net.now (Some process) core.old }
     ensures { OnlyWakes (family K.Kinds) K.admits net.now core.old core.new }
@@ -52,7 +53,21 @@ fn wake<K: Kinds, H: Keeper>(net: &Net<K>, core: &mut Core<H>, process: usize)
     if !can_do(net, &core.store, process, answer.act) {
         return;
     }
-    unpark(net, core, process, answer);
+    match answer.act {
+        Act::Read(port) => {
+            if let Some(read) = net.in_of(process, usize::from(port)) {
+                core.waiting.marks.note_reader(read, false);
+            }
+        }
+        Act::Write(port, _) => {
+            if let Some(written) = net.out_of(process, usize::from(port)) {
+                let (_, capacity) = core.store.tokens_and_capacity(written);
+                unlist(&mut core.waiting, capacity, written);
+            }
+        }
+        Act::Stop => {}
+    }
+    core.standings.update(process, Standing::Ready);
 }
 
 /// Appends a token to a channel from outside the network, without an entry, and makes the channel's reader

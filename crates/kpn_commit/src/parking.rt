@@ -1,8 +1,6 @@
-//! Parks processes and makes them ready again.
+//! Parks processes, and notes that one waits no more.
 ghost use Rattle.std.specs.Prelude.{◌≡◌, ◌≢◌, ◌↔◌, ◌<◌, ◌+◌, ℕ, length, set, Contains, true, false};
-ghost use Rattle.kpn_model.specs.Families.{family};
-ghost use Rattle.kpn_model.specs.Semantics.{IsPossible};
-ghost use Rattle.kpn_state.specs.declared.standing.Standing.TheVariants.{Parked, Ready};
+ghost use Rattle.kpn_state.specs.declared.standing.Standing.TheVariants.{Parked};
 ghost use Rattle.kpn_state.specs.Marks.{mark_lists};
 ghost use Rattle.kpn_state.specs.Standings.{standing, is_busy};
 ghost use Rattle.kpn_commit.specs.Waiting.{AreWaiting};
@@ -41,35 +39,6 @@ pub fn park<K: Kinds, H: Keeper>(net: &Net<K>, core: &mut Core<H>, process: usiz
         Act::Stop => {}
     }
     core.standings.update(process, Standing::Parked(answer));
-}
-
-/// Makes a parked process ready. It must be able to do what it answered. Removes its mark and its candidate.
-#[inline(always)]
-pub fn unpark<K: Kinds, H: Keeper>(net: &Net<K>, core: &mut Core<H>, process: usize, answer: Answer)
-    requires process { process < length core.old.standings }
-    requires parked { standing core.old.standings process ≡ Parked answer }
-    requires possible { IsPossible (family K.Kinds) net.now core.old.store.state process answer.act }
-    requires channels { length core.old.store.state.channels ≡ length net.now.channels }
-    requires waiting { AreWaiting net.now core.old.store.state core.old.standings core.old.waiting }
-    ensures store { core.new.store ≡ core.old.store }
-    ensures ready { core.new.standings ≡ set core.old.standings process Ready }
-    ensures waiting { AreWaiting net.now core.new.store.state core.new.standings core.new.waiting }
-{
-    match answer.act {
-        Act::Read(port) => {
-            if let Some(read) = net.in_of(process, usize::from(port)) {
-                core.waiting.marks.note_reader(read, false);
-            }
-        }
-        Act::Write(port, _) => {
-            if let Some(written) = net.out_of(process, usize::from(port)) {
-                let (_, capacity) = core.store.tokens_and_capacity(written);
-                unlist(&mut core.waiting, capacity, written);
-            }
-        }
-        Act::Stop => {}
-    }
-    core.standings.update(process, Standing::Ready);
 }
 
 /// Removes the candidate with this capacity and its writer's mark, when the writer is served.

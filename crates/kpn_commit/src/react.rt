@@ -5,7 +5,7 @@ ghost use Rattle.kpn_model.specs.declared.kinds.Answer.{Answer as AnswerV};
 ghost use Rattle.kpn_model.specs.Semantics.{wants, IsPossible};
 ghost use Rattle.kpn_model.specs.declared.kinds.Act.TheVariants.{Stop};
 ghost use Rattle.kpn_state.specs.declared.standing.Standing.TheVariants.{Parked, Ready};
-ghost use Rattle.kpn_state.specs.Standings.{standing, is_busy, partner, HasChannel};
+ghost use Rattle.kpn_state.specs.Standings.{standing, partner, HasChannel};
 ghost use Rattle.kpn_commit.specs.Coherent.{IsCoherent, IsCoherentBut};
 ghost use Rattle.kpn_commit.specs.Waiting.{HasMark, partner_marked};
 ghost use Rattle.kpn_commit.specs.Reactions.{Reacts, CannotGoOn};
@@ -32,19 +32,14 @@ pub enum Reaction {
 /// Does what a ready or out process answered, or parks the process with the answer; then does the deed of the
 /// parked process that this enables. The history must have room for two entries.
 #[inline(always)]
-pub fn react<K: Kinds, H: Keeper>(
+pub(crate) fn react<K: Kinds, H: Keeper>(
     net: &Net<K>,
     core: &mut Core<H>,
     process: usize,
     answer: Answer,
 ) -> Reaction
-    requires coherent { IsCoherent (family K.Kinds) K.admits net.now core.old }
-    requires process { process < length core.old.standings }
-    requires wants { wants (family K.Kinds) net.now core.old.store.state process ≡ Some answer }
-    requires busy { is_busy (standing core.old.standings process) ≡ true }
-    requires room { length core.old.store.history + 2 ≤ core.old.store.limit }
-    ensures reacts { Reacts (family K.Kinds) net.now core.old.store core.old.standings process answer result core.new.store core.new.standings }
-    ensures coherent { IsCoherent (family K.Kinds) K.admits net.now core.new }
+    requires { HasAnswered (family K.Kinds) K.admits net.now core.old process answer }
+    ensures { ReactsTo (family K.Kinds) K.admits net.now core.old process answer result core.new }
 {
     let next = answer.next;
     match answer.act {

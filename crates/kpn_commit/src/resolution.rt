@@ -1,10 +1,6 @@
 //! What follows if no process is ready or out.
-ghost use Rattle.std.specs.Prelude.{◌≡◌, ◌<◌, ◌≤◌, ◌+◌, min, length, false};
+ghost use Rattle.std.specs.Prelude.{◌≡◌, ◌<◌, ◌+◌, min};
 ghost use Rattle.kpn_model.specs.Families.{family};
-ghost use Rattle.std.specs.List.{list_any};
-ghost use Rattle.kpn_state.specs.Standings.{is_busy};
-ghost use Rattle.kpn_commit.specs.Coherent.{IsCoherent};
-ghost use Rattle.kpn_commit.specs.Resolving.{Resolves};
 ghost use Rattle.kpn_commit.specs.Answering.{IsIdle, ResolvesTo};
 
 use crate::act::advance;
@@ -36,9 +32,11 @@ fn enlarged(capacity: usize, step: usize, ceiling: usize) -> usize
     }
 }
 
+/// Ends the run, or grows the chosen channel and does its writer's put (Parks 1995). The run also ends if out of memory
+/// for the growth.
 #[cold]
 #[inline(never)]
-fn resolve_idle<K: Kinds, H: Keeper>(net: &Net<K>, core: &mut Core<H>) -> Resolution
+pub(crate) fn resolve_idle<K: Kinds, H: Keeper>(net: &Net<K>, core: &mut Core<H>) -> Resolution
     requires { IsIdle (family K.Kinds) K.admits net.now core.old }
     ensures { ResolvesTo (family K.Kinds) K.admits net.now core.old result core.new }
 {
@@ -65,20 +63,4 @@ fn resolve_idle<K: Kinds, H: Keeper>(net: &Net<K>, core: &mut Core<H>) -> Resolu
         unreachable!()
     };
     Resolution::Enlarged
-}
-
-/// If no process is ready or out, ends the run, or grows the chosen channel and does its writer's put (Parks
-/// 1995); the history must then have room for two entries. The run also ends if out of memory for the growth.
-#[inline(always)]
-pub fn resolve<K: Kinds, H: Keeper>(net: &Net<K>, core: &mut Core<H>) -> Resolution
-    requires coherent { IsCoherent (family K.Kinds) K.admits net.now core.old }
-    requires room { list_any is_busy core.old.standings ≡ false → length core.old.store.history + 2 ≤ core.old.store.limit }
-    ensures resolves { Resolves (family K.Kinds) net.now core.old.store core.old.standings result core.new.store core.new.standings }
-    ensures coherent { IsCoherent (family K.Kinds) K.admits net.now core.new }
-{
-    if core.standings.any_busy() {
-        Resolution::Busy
-    } else {
-        resolve_idle(net, core)
-    }
 }

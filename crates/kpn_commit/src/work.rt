@@ -13,7 +13,7 @@ ghost use Rattle.std.specs.List.{list_any};
 use crate::cores::Core;
 use crate::outcome::Outcome;
 use crate::react::{Reaction, react, react_on};
-use crate::resolution::{Resolution, resolve};
+use crate::resolution::{Resolution, resolve_idle};
 use kpn_model::{Answer, End, Kinds};
 use kpn_network::Net;
 use kpn_state::Keeper;
@@ -56,7 +56,7 @@ fn end_after(resolution: Resolution, budget: u64, entries: u64) -> Option<End>
 
 /// Settles a run that has not ended: if no process is ready or out, the run ends, or the chosen channel grows
 /// and its writer's put is done; the history must then have room for two entries. Returns which, and the run's
-/// end, if any; `Budget` if that is spent.
+/// end, if any; `Budget` if that is spent. The run also ends if out of memory for the growth (Parks 1995).
 #[inline(always)]
 pub fn settle<K: Kinds, H: Keeper>(net: &Net<K>, core: &mut Core<H>) -> (Resolution, Option<End>)
     requires coherent { IsCoherent (family K.Kinds) K.admits net.now core.old }
@@ -65,7 +65,11 @@ pub fn settle<K: Kinds, H: Keeper>(net: &Net<K>, core: &mut Core<H>) -> (Resolut
     ensures ended { result.1 ≡ end_after result.0 net.now.budget (length core.new.store.history) }
     ensures coherent { IsCoherent (family K.Kinds) K.admits net.now core.new }
 {
-    let resolution = resolve(net, core);
+    let resolution = if core.standings.any_busy() {
+        Resolution::Busy
+    } else {
+        resolve_idle(net, core)
+    };
     let ended = end_after(resolution, net.budget(), core.store.entries() as u64);
     (resolution, ended)
 }

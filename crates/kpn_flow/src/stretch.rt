@@ -13,7 +13,8 @@ use crate::pause::Pause;
 use crate::waits::{any_holds_up, any_starves};
 use kpn_body::Body;
 use kpn_commit::Core;
-use kpn_commit::resolution::{Resolution, resolve};
+use kpn_commit::resolution::Resolution;
+use kpn_commit::work::settle;
 use kpn_machine::asking::ask_ready;
 use kpn_model::Kinds;
 use kpn_network::Net;
@@ -58,7 +59,7 @@ fn rest<K: Kinds>(
     if let Some(pause) = awaited(net, core.standings.as_slice(), inputs, outputs) {
         return Some(pause);
     }
-    match resolve(net, core) {
+    match settle(net, core).0 {
         Resolution::Ended(end) => Some(Pause::Over(end)),
         Resolution::Enlarged => None,
         Resolution::Busy => unreachable!(),

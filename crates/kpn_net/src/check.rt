@@ -1,5 +1,5 @@
 //! Makes a network of a sketch.
-ghost use Rattle.std.specs.Prelude.{All, ◌≡◌, ◌≢◌, ◌++◌, ◌∷◌, [], Some, None, IfOk, IfErr, OnOk, map, position};
+ghost use Rattle.std.specs.Prelude.{All, ◌≡◌, ◌≢◌, Some, None, IfOk, IfErr, map, position};
 ghost use Rattle.std.specs.Str.{bytes_eq};
 ghost use Rattle.kpn_model.specs.Lawful.{CardFits, Fits};
 ghost use Rattle.kpn_model.specs.Valid.{IsValid};
@@ -12,7 +12,7 @@ use kpn_model::version::ceiling_in;
 use kpn_model::{Channel, Kinds, Listed, Process, Text, Token};
 use kpn_network::{Net, Parts};
 use kpn_sketch::{ChannelSketch, NetFault, ProcessSketch, Sketch, TokenSketch};
-use std::alloc::Global;
+use std::alloc::{AllocError, Global};
 
 /// The check of a sketch, `Net::check`. It is a trait, implemented by `Net` alone and brought into scope by
 /// callers, because `Net` is a type of `kpn_network`, and only a type's own crate can give it methods.
@@ -39,8 +39,12 @@ pub trait Check {
             return Err(fault);
         }
         let sketches = sketch.processes.as_slice();
-        let processes = processes_of::<Self::Kinds>(alloc, sketches)?;
-        let channels = channels_of(alloc, sketches, sketch.channels.as_slice())?;
+        let Ok(processes) = processes_of::<Self::Kinds>(alloc, sketches) else {
+            return Err(NetFault::Memory);
+        };
+        let Ok(channels) = channels_of(alloc, sketches, sketch.channels.as_slice()) else {
+            return Err(NetFault::Memory);
+        };
         let parts = Parts {
             processes,
             channels,
@@ -60,10 +64,9 @@ impl<K: Kinds> Check for Net<K> {
 }
 
 /// A kind that the family lacks counts as kind 0.
-fn process_in<K: Kinds>(alloc: Global, sketch: &ProcessSketch) -> Result<Process, NetFault>
+fn process_in<K: Kinds>(alloc: Global, sketch: &ProcessSketch) -> Result<Process, AllocError>
     ensures ok { IfOk result (λ p. p ≡ process_in K.named sketch.now) }
     ensures fits { IfOk result (λ p. CardFits p.card) }
-    ensures memory { IfErr result (λ e. e ≡ NetFault.Memory) }
 {
     let kind = match K::named(sketch.kind.as_str()) {
         Some((kind, _)) => kind,
@@ -103,24 +106,20 @@ fn token_in(sketch: TokenSketch) -> Token
     }
 }
 
-fn tokens_in(alloc: Global, sketches: &[TokenSketch]) -> Result<Vec<Token>, NetFault>
+fn tokens_in(alloc: Global, sketches: &[TokenSketch]) -> Result<Vec<Token>, AllocError>
     ensures ok { IfOk result (λ v. v.items ≡ map token_in sketches.now) }
     ensures fit { IfOk result (λ v. All Fits v.items) }
-    ensures memory { IfErr result (λ e. e ≡ NetFault.Memory) }
 {
     let mut tokens = Vec::new(alloc);
     for sketch in sketches {
-        if tokens.push(token_in(*sketch)).is_err() {
-            return Err(NetFault::Memory);
-        }
+        tokens.push(token_in(*sketch))?;
     }
     Ok(tokens)
 }
 
-fn tokens_of(alloc: Global, sketch: &ChannelSketch) -> Result<Listed<Token>, NetFault>
+fn tokens_of(alloc: Global, sketch: &ChannelSketch) -> Result<Listed<Token>, AllocError>
     ensures ok { IfOk result (λ l. l ≡ map token_in sketch.now.tokens) }
     ensures fit { IfOk result (λ l. All Fits l) }
-    ensures memory { IfErr result (λ e. e ≡ NetFault.Memory) }
 {
     let tokens = tokens_in(alloc, sketch.tokens.as_slice())?;
     Ok(Listed::new(tokens))
@@ -130,10 +129,9 @@ fn channel_in(
     alloc: Global,
     processes: &[ProcessSketch],
     sketch: &ChannelSketch,
-) -> Result<Channel, NetFault>
+) -> Result<Channel, AllocError>
     ensures ok { IfOk result (λ c. c ≡ channel_in processes.now sketch.now) }
     ensures fits { IfOk result (λ c. All Fits c.tokens) }
-    ensures memory { IfErr result (λ e. e ≡ NetFault.Memory) }
 {
     Ok(Channel {
         name: copied(alloc, &sketch.name)?,
@@ -150,73 +148,34 @@ fn channel_in(
 fn processes_of<K: Kinds>(
     alloc: Global,
     sketches: &[ProcessSketch],
-) -> Result<Vec<Process>, NetFault>
+) -> Result<Vec<Process>, AllocError>
     ensures ok { IfOk result (λ v. v.items ≡ map (process_in K.named) sketches.now) }
     ensures fit { IfOk result (λ v. All (λ p. CardFits p.card) v.items) }
-    ensures memory { IfErr result (λ e. e ≡ NetFault.Memory) }
 {
     let mut processes = Vec::new(alloc);
     for sketch in sketches {
-        add_process::<K>(alloc, sketch, &mut processes)?;
+        processes.push(process_in::<K>(alloc, sketch)?)?;
     }
     Ok(processes)
-}
-
-fn add_process<K: Kinds>(
-    alloc: Global,
-    sketch: &ProcessSketch,
-    processes: &mut Vec<Process>,
-) -> Result<(), NetFault>
-    ensures added { OnOk result (processes.new.items ≡ processes.old.items ++ process_in K.named sketch.now ∷ []) }
-    ensures fit { OnOk result (All (λ p. CardFits p.card) processes.old.items → All (λ p. CardFits p.card) processes.new.items) }
-    ensures memory { IfErr result (λ e. e ≡ NetFault.Memory) }
-{
-    let process = process_in::<K>(alloc, sketch)?;
-    if processes.push(process).is_err() {
-        return Err(NetFault::Memory);
-    }
-    Ok(())
 }
 
 fn channels_of(
     alloc: Global,
     processes: &[ProcessSketch],
     sketches: &[ChannelSketch],
-) -> Result<Vec<Channel>, NetFault>
+) -> Result<Vec<Channel>, AllocError>
     ensures ok { IfOk result (λ v. v.items ≡ map (channel_in processes.now) sketches.now) }
     ensures fit { IfOk result (λ v. All (λ c. All Fits c.tokens) v.items) }
-    ensures memory { IfErr result (λ e. e ≡ NetFault.Memory) }
 {
     let mut channels = Vec::new(alloc);
     for sketch in sketches {
-        add_channel(alloc, processes, sketch, &mut channels)?;
+        channels.push(channel_in(alloc, processes, sketch)?)?;
     }
     Ok(channels)
 }
 
-fn add_channel(
-    alloc: Global,
-    processes: &[ProcessSketch],
-    sketch: &ChannelSketch,
-    channels: &mut Vec<Channel>,
-) -> Result<(), NetFault>
-    ensures added { OnOk result (channels.new.items ≡ channels.old.items ++ channel_in processes.now sketch.now ∷ []) }
-    ensures fits { OnOk result (All Fits (channel_in processes.now sketch.now).tokens) }
-    ensures memory { IfErr result (λ e. e ≡ NetFault.Memory) }
+fn copied(alloc: Global, text: &Text) -> Result<Text, AllocError>
+    ensures { IfOk result (λ t. t ≡ text.now) }
 {
-    let channel = channel_in(alloc, processes, sketch)?;
-    if channels.push(channel).is_err() {
-        return Err(NetFault::Memory);
-    }
-    Ok(())
-}
-
-fn copied(alloc: Global, text: &Text) -> Result<Text, NetFault>
-    ensures ok { IfOk result (λ t. t ≡ text.now) }
-    ensures memory { IfErr result (λ e. e ≡ NetFault.Memory) }
-{
-    match String::from_str(alloc, text.as_str()) {
-        Ok(string) => Ok(Text::new(string)),
-        Err(_) => Err(NetFault::Memory),
-    }
+    Ok(Text::new(String::from_str(alloc, text.as_str())?))
 }

@@ -1,7 +1,7 @@
 //! The tally of entries that were counted while they were kept.
-ghost use Rattle.std.specs.Prelude.{◌≡◌, ◌<◌, [], length, IfOk};
+ghost use Rattle.std.specs.Prelude.{◌≡◌, ◌<◌, [], IfOk};
 ghost use Rattle.kpn_model.specs.History.{growths as growths_of};
-ghost use Rattle.kpn_report.specs.Tally.{CountsSteps, KeepsCounts, counts_of};
+ghost use Rattle.kpn_report.specs.Tally.{CountsSteps, KeepsCounts};
 
 use crate::channel_counts::ChannelCounts;
 use crate::tallied::Tallied;
@@ -43,20 +43,7 @@ fn counted_steps<K: Kinds>(
     Ok(steps)
 }
 
-/// Returns the counts of a channel that didn't grow.
-fn counted_channel<K: Kinds>(net: &Net<K>, tallied: &Tallied, c: usize) -> ChannelCounts
-    requires channel { c < length net.now.channels }
-    requires none { growths_of tallied.now.entries ≡ [] }
-    ensures { result ≡ counts_of net.now tallied.now.entries c }
-{
-    net.assure_valid();
-    ChannelCounts {
-        put: tallied.puts(c) as usize,
-        taken: tallied.takes(c) as usize,
-        capacity: net.capacity(c),
-    }
-}
-
+/// Returns the counts of channels that didn't grow.
 fn counted_channels<K: Kinds>(
     alloc: Global,
     net: &Net<K>,
@@ -65,9 +52,14 @@ fn counted_channels<K: Kinds>(
     requires none { growths_of tallied.now.entries ≡ [] }
     ensures { IfOk result (λ v. KeepsCounts net.now tallied.now.entries v.items) }
 {
+    net.assure_valid();
     let mut channel_counts = Vec::with_capacity(alloc, net.channels())?;
     for c in 0..net.channels() {
-        channel_counts.push(counted_channel(net, tallied, c))?;
+        channel_counts.push(ChannelCounts {
+            put: tallied.puts(c) as usize,
+            taken: tallied.takes(c) as usize,
+            capacity: net.capacity(c),
+        })?;
     }
     Ok(channel_counts)
 }

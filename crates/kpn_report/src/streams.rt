@@ -14,20 +14,13 @@ pub type Stream = Listed<Token>;
 /// A stream for each channel.
 pub type Streams = Listed<Stream>;
 
-fn first_stream<K: Kinds>(alloc: Global, net: &Net<K>, c: usize) -> Result<Stream, AllocError>
-    requires { c < length net.now.channels }
-    ensures { IfOk result (λ s. s ≡ stream net.now [] c) }
-{
-    Ok(Listed::new(Vec::from_slice(alloc, net.tokens(c))?))
-}
-
 /// Returns each channel's start tokens.
 fn first_streams<K: Kinds>(alloc: Global, net: &Net<K>) -> Result<Vec<Stream>, AllocError>
     ensures { IfOk result (λ v. KeepsStreams net.now [] v.items) }
 {
     let mut streams = Vec::with_capacity(alloc, net.channels())?;
     for c in 0..net.channels() {
-        streams.push(first_stream(alloc, net, c)?)?;
+        streams.push(Listed::new(Vec::from_slice(alloc, net.tokens(c))?))?;
     }
     Ok(streams)
 }

@@ -1,7 +1,7 @@
 //! Counts a history, entry by entry.
-ghost use Rattle.std.specs.Prelude.{◌≡◌, ◌<◌, ◌+◌, ◌^◌, ◌++◌, ◌∷◌, [], ℕ, set, get_or, length, IfOk, OnOk};
+ghost use Rattle.std.specs.Prelude.{◌≡◌, ◌<◌, ◌+◌, ◌^◌, ◌++◌, ◌∷◌, [], ℕ, set, get_or, IfOk, OnOk};
 ghost use Rattle.kpn_model.specs.History.{growths as growths_of};
-ghost use Rattle.kpn_report.specs.Tally.{CountsSteps, KeepsCounts, one_more_at, with_put, with_taken, with_capacity, counts_at, steps_after, counts_after_deed, counts_after, counts_of};
+ghost use Rattle.kpn_report.specs.Tally.{CountsSteps, KeepsCounts, one_more_at, with_put, with_taken, with_capacity, counts_at, steps_after, counts_after};
 
 use crate::channel_counts::ChannelCounts;
 use crate::counted::counted_tally;
@@ -58,18 +58,6 @@ fn note_capacity(channel_counts: &mut Vec<ChannelCounts>, channel: usize, to: us
     }
 }
 
-fn note_deed(channel_counts: &mut Vec<ChannelCounts>, deed: Deed)
-    requires few_put { (c : ℕ) → (counts_at channel_counts.old.items c).put + 1 < 2 ^ 64 }
-    requires few_taken { (c : ℕ) → (counts_at channel_counts.old.items c).taken + 1 < 2 ^ 64 }
-    ensures { channel_counts.new.items ≡ counts_after_deed channel_counts.old.items deed }
-{
-    match deed {
-        Deed::Took { channel, .. } => count_taken(channel_counts, channel),
-        Deed::Put { channel, .. } => count_put(channel_counts, channel),
-        Deed::Stopped => {}
-    }
-}
-
 /// Counts an entry. Errors: out of memory.
 fn note(
     steps: &mut Vec<u64>,
@@ -87,7 +75,11 @@ fn note(
     match entry {
         Entry::Did { process, deed } => {
             count_at(steps, process);
-            note_deed(channel_counts, deed);
+            match deed {
+                Deed::Took { channel, .. } => count_taken(channel_counts, channel),
+                Deed::Put { channel, .. } => count_put(channel_counts, channel),
+                Deed::Stopped => {}
+            }
             Ok(())
         }
         Entry::Grew { channel, to } => {
@@ -104,23 +96,16 @@ fn no_steps<K: Kinds>(alloc: Global, net: &Net<K>) -> Result<Vec<u64>, AllocErro
     vec![in alloc; 0u64; net.processes()]
 }
 
-fn first_counts_of<K: Kinds>(net: &Net<K>, c: usize) -> ChannelCounts
-    requires { c < length net.now.channels }
-    ensures { result ≡ counts_of net.now [] c }
-{
-    ChannelCounts {
-        put: 0,
-        taken: 0,
-        capacity: net.capacity(c),
-    }
-}
-
 fn first_counts<K: Kinds>(alloc: Global, net: &Net<K>) -> Result<Vec<ChannelCounts>, AllocError>
     ensures { IfOk result (λ v. KeepsCounts net.now [] v.items) }
 {
     let mut channel_counts = Vec::with_capacity(alloc, net.channels())?;
     for c in 0..net.channels() {
-        channel_counts.push(first_counts_of(net, c))?;
+        channel_counts.push(ChannelCounts {
+            put: 0,
+            taken: 0,
+            capacity: net.capacity(c),
+        })?;
     }
     Ok(channel_counts)
 }
@@ -136,21 +121,9 @@ pub(crate) fn tally_of<K: Kinds, E: Entries>(
     ensures growths { IfOk result (λ t. t.growths.items ≡ growths_of (E.entries history.now)) }
 {
     match history.tallied() {
-        Some(tallied) if !tallied.has_growths() => counted_tally(alloc, net, tallied),
-        _ => read_tally(alloc, net, history),
+        Some(tallied) if !tallied.has_growths() => return counted_tally(alloc, net, tallied),
+        _ => {}
     }
-}
-
-/// Counts a history by reading it once. Errors: out of memory.
-fn read_tally<K: Kinds, E: Entries>(
-    alloc: Global,
-    net: &Net<K>,
-    history: &E,
-) -> Result<Tally, AllocError>
-    ensures steps { IfOk result (λ t. CountsSteps net.now (E.entries history.now) t.steps.items) }
-    ensures channel_counts { IfOk result (λ t. KeepsCounts net.now (E.entries history.now) t.channel_counts.items) }
-    ensures growths { IfOk result (λ t. t.growths.items ≡ growths_of (E.entries history.now)) }
-{
     let mut steps = no_steps(alloc, net)?;
     let mut channel_counts = first_counts(alloc, net)?;
     let mut growths = Vec::new(alloc);

@@ -17,25 +17,8 @@ use crate::tally::{Tally, tally_of};
 use kpn_model::{End, Entry, Kinds, Place};
 use kpn_network::Net;
 use std::alloc::{AllocError, Global};
-use std::fmt::Write;
 
-/// Appends the line of a channel from its counts.
-fn push_counted<K: Kinds>(
-    out: &mut String,
-    net: &Net<K>,
-    channel_counts: &[ChannelCounts],
-    c: usize,
-) -> Result<(), AllocError>
-    requires channel { c < length net.now.channels }
-    requires all { length channel_counts.now ≡ length net.now.channels }
-    requires few { (counts_at channel_counts.now c).put < 2 ^ 63 }
-    ensures { OnOk result (string_bytes out.new ≡ string_bytes out.old ++ counted_line net.now channel_counts.now c) }
-{
-    let counts = channel_counts[c];
-    let left = (net.tokens(c).len() + counts.put).saturating_sub(counts.taken);
-    push_channel(out, net, counts, left, c)
-}
-
+/// Appends the line of each channel from its counts.
 fn push_channels<K: Kinds>(
     out: &mut String,
     net: &Net<K>,
@@ -46,7 +29,9 @@ fn push_channels<K: Kinds>(
     ensures { OnOk result (string_bytes out.new ≡ string_bytes out.old ++ lines_upto (counted_line net.now channel_counts.now) (length net.now.channels)) }
 {
     for c in 0..net.channels() {
-        push_counted(out, net, channel_counts, c)?;
+        let counts = channel_counts[c];
+        let left = (net.tokens(c).len() + counts.put).saturating_sub(counts.taken);
+        push_channel(out, net, counts, left, c)?;
     }
     Ok(())
 }

@@ -24,21 +24,21 @@ pub returns-in-Ended : goal.returns-in-Ended
 returns-in-Ended g c =
     record {
       settled =
-          let resolves = c.in-Ended.ensures.resolves in
-          record { fits = rw (resolves.1, resolves.2) c.requires.settled.fits; waiting = c.in-Ended.ensures.coherent.waiting };
-      limit = rw c.in-Ended.ensures.resolves.1 refl;
-      run = rw (c.in-Ended.ensures.resolves.1, c.requires.emptied) refl;
-      few = rw (c.in-Ended.ensures.resolves.1, c.requires.emptied) (omega arith);
+          let resolves = (rw c.in-Ended.is at c.settle.ensures.resolves) in
+          record { fits = rw (resolves.1, resolves.2) c.requires.settled.fits; waiting = c.settle.ensures.coherent.waiting };
+      limit = rw (rw c.in-Ended.is at c.settle.ensures.resolves).1 refl;
+      run = rw ((rw c.in-Ended.is at c.settle.ensures.resolves).1, c.requires.emptied) refl;
+      few = rw ((rw c.in-Ended.is at c.settle.ensures.resolves).1, c.requires.emptied) (omega arith);
       rests =
           let kinds = family_of g.K.Kinds.start g.K.Kinds.answer_of in
-          let resolves = c.in-Ended.ensures.resolves in
+          let resolves = (rw c.in-Ended.is at c.settle.ensures.resolves) in
           rw resolves.1 (
             resolves.3,
             none_can_help kinds g.K.Kinds.admits c.args.net.now c.args.core.now.store.state c.args.core.now.standings c.requires.settled.fits.keeps c.requires.idle c.args.inputs.now c.args.outputs.now (rw c.as_slice.ensures.value at c.in_default.ensures.not_fed) (rw c.as_slice.ensures.value at c.in_default.ensures.not_drained),
           );
-      none = rw c.in-Ended.ensures.resolves.1 c.requires.emptied;
+      none = rw (rw c.in-Ended.is at c.settle.ensures.resolves).1 c.requires.emptied;
       told =
-          let resolves = c.in-Ended.ensures.resolves in
+          let resolves = (rw c.in-Ended.is at c.settle.ensures.resolves) in
           rw (resolves.1, resolves.2) (told (family_of g.K.Kinds.start g.K.Kinds.answer_of) g.K.Kinds.admits c.args.net.now c.args.core.now.store.state c.args.core.now.standings c.requires.settled.fits.keeps (Over c.in-Ended.end) c.requires.idle);
       goes = tt;
     }
@@ -49,15 +49,15 @@ returns-in-Enlarged g c =
       settled =
           record {
             fits =
-                resolved_settled (family_of g.K.Kinds.start g.K.Kinds.answer_of) g.K.Kinds.admits c.args.net.now c.args.core.now.store c.args.core.now.standings Enlarged c.resolve.new.core.store c.resolve.new.core.standings c.requires.settled.fits.none_out c.in-Enlarged.ensures.resolves c.in-Enlarged.ensures.coherent.keeps;
-            waiting = c.in-Enlarged.ensures.coherent.waiting;
+                resolved_settled (family_of g.K.Kinds.start g.K.Kinds.answer_of) g.K.Kinds.admits c.args.net.now c.args.core.now.store c.args.core.now.standings Enlarged c.settle.new.core.store c.settle.new.core.standings c.requires.settled.fits.none_out (rw c.in-Enlarged.is at c.settle.ensures.resolves) c.settle.ensures.coherent.keeps;
+            waiting = c.settle.ensures.coherent.waiting;
           };
       limit = search rules;
       run =
           let kinds = family_of g.K.Kinds.start g.K.Kinds.answer_of in
           let none = none_can_help kinds g.K.Kinds.admits c.args.net.now c.args.core.now.store.state c.args.core.now.standings c.requires.settled.fits.keeps c.requires.idle c.args.inputs.now c.args.outputs.now
           (rw c.as_slice.ensures.value at c.in_default.ensures.not_fed) (rw c.as_slice.ensures.value at c.in_default.ensures.not_drained) in
-          (alone kinds c.args.net.now c.args.inputs.now c.args.outputs.now c.args.core.now.store c.resolve.new.core.store c.args.core.now.standings c.resolve.new.core.standings 1 1 c.requires.emptied (enlarged_turned kinds c.args.net.now c.args.inputs.now c.args.outputs.now c.args.core.now.store c.args.core.now.standings c.resolve.new.core.store c.resolve.new.core.standings none c.in-Enlarged.ensures.resolves.1)).run;
+          (alone kinds c.args.net.now c.args.inputs.now c.args.outputs.now c.args.core.now.store c.settle.new.core.store c.args.core.now.standings c.settle.new.core.standings 1 1 c.requires.emptied (enlarged_turned kinds c.args.net.now c.args.inputs.now c.args.outputs.now c.args.core.now.store c.args.core.now.standings c.settle.new.core.store c.settle.new.core.standings none (rw c.in-Enlarged.is at c.settle.ensures.resolves).1)).run;
       few = search rules;
       rests = tt;
       none = tt;
@@ -66,5 +66,5 @@ returns-in-Enlarged g c =
           let kinds = family_of g.K.Kinds.start g.K.Kinds.answer_of in
           let none = none_can_help kinds g.K.Kinds.admits c.args.net.now c.args.core.now.store.state c.args.core.now.standings c.requires.settled.fits.keeps c.requires.idle c.args.inputs.now c.args.outputs.now
           (rw c.as_slice.ensures.value at c.in_default.ensures.not_fed) (rw c.as_slice.ensures.value at c.in_default.ensures.not_drained) in
-          (alone kinds c.args.net.now c.args.inputs.now c.args.outputs.now c.args.core.now.store c.resolve.new.core.store c.args.core.now.standings c.resolve.new.core.standings 1 1 c.requires.emptied (enlarged_turned kinds c.args.net.now c.args.inputs.now c.args.outputs.now c.args.core.now.store c.args.core.now.standings c.resolve.new.core.store c.resolve.new.core.standings none c.in-Enlarged.ensures.resolves.1)).goes;
+          (alone kinds c.args.net.now c.args.inputs.now c.args.outputs.now c.args.core.now.store c.settle.new.core.store c.args.core.now.standings c.settle.new.core.standings 1 1 c.requires.emptied (enlarged_turned kinds c.args.net.now c.args.inputs.now c.args.outputs.now c.args.core.now.store c.args.core.now.standings c.settle.new.core.store c.settle.new.core.standings none (rw c.in-Enlarged.is at c.settle.ensures.resolves).1)).goes;
     }

@@ -1,12 +1,15 @@
 -- One more channel.
-use Rattle.kpn_report.specs.Tally.{no_counts}
+use Rattle.kpn_report.specs.Tally.{no_counts, counts_of}
+use Rattle.kpn_report.specs.declared.channel_counts.ChannelCounts.{ChannelCounts}
 use Rattle.kpn_report.proofs.Tables.{one_more}
-use Rattle.std.proofs.Common.{arith, ◌∷◌, [], length-append}
+use Rattle.std.proofs.Common.{◌≡◌, arith, rules, ◌∷◌, [], length-append}
 use Rattle.kpn_report.proofs.tally.first_counts.Goals as goal
 
 pub loop-c-preserved : goal.loop-c-preserved
 loop-c-preserved g c =
+    let first : ChannelCounts = record { put = 0; taken = 0; capacity = c.capacity.result } in
+    let is : first ≡ counts_of c.args.net.now [] c.loop-c.c = search rules in
     rw c.in_ok-push.ensures.items (record {
-      count = omega (arith, length-append c.loop-c.channel_counts.items (c.first_counts_of.result ∷ []), c.loop-c.invariant.count);
-      each = one_more no_counts _ c.loop-c.c c.loop-c.channel_counts.items c.first_counts_of.result c.loop-c.invariant.count c.loop-c.invariant.each c.first_counts_of.ensures;
+      count = omega (arith, length-append c.loop-c.channel_counts.items (first ∷ []), c.loop-c.invariant.count);
+      each = one_more no_counts _ c.loop-c.c c.loop-c.channel_counts.items first c.loop-c.invariant.count c.loop-c.invariant.each is;
     })

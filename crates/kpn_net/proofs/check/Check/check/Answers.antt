@@ -19,7 +19,7 @@ of_parts-requires-after_bounds g c =
     let named = g.Self.Kinds.Kinds.named in
     let signature = g.Self.Kinds.Kinds.signature in
     let fine : first_fault named signature c.args.sketch.now ≡ None = search rules in
-    let made : Network = record { processes = c.in_ok-processes.processes.items; channels = c.in_ok-channels.channels.items; budget = c.unsigned_abs.result; step = c.unsigned_abs-2.result; ceiling = c.ceiling_in.result } in
+    let made : Network = record { processes = c.in-Ok.processes.items; channels = c.in-Ok-channels_of.channels.items; budget = c.unsigned_abs.result; step = c.unsigned_abs-2.result; ceiling = c.ceiling_in.result } in
     let is_net : made ≡ net_of named c.args.sketch.now = search rules in
     let fits : HasCards made = search rules in
     let tokens : HasTokens made = search rules in

@@ -1,7 +1,7 @@
 use Rattle.std.proofs.Common.{◌≡◌, take}
 use Rattle.kpn_model.specs.History.{growths}
 use Rattle.kpn_report.specs.Tally.{CountsSteps, KeepsCounts}
-use Rattle.kpn_report.proofs.tally.read_tally.Given as goal
+use Rattle.kpn_report.proofs.tally.tally_of.Given as goal
 
 abbrev pub invariant-loop-k : goal.invariant-loop-k
 invariant-loop-k g l = record {

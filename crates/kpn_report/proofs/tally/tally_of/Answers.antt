@@ -4,7 +4,7 @@ use Rattle.std.proofs.lemmas.List.{length-take-le, take_all}
 use Rattle.kpn_model.specs.History.{growths}
 use Rattle.kpn_report.specs.Tally.{steps_after, counts_after}
 use Rattle.kpn_report.proofs.Tallies.{few_deeds, few_put, few_taken, steps_next, counts_next, growths_next}
-use Rattle.kpn_report.proofs.tally.read_tally.Goals as goal
+use Rattle.kpn_report.proofs.tally.tally_of.Goals as goal
 
 pub note-requires-clause-few_deeds : goal.note-requires-clause-few_deeds
 note-requires-clause-few_deeds g c = λ p.
