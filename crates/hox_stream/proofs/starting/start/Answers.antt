@@ -12,4 +12,3 @@ fault_of-requires g c =
 pub returns-in-Err-clause-fault : goal.returns-in-Err-clause-fault
 returns-in-Err-clause-fault g c =
     start_fault_of (family_of g.F.Kinds.start g.F.Kinds.answer_of) c.args.net c.args.inputs.items c.args.outputs.items c.requires.inputs c.requires.outputs c.requires.fed c.requires.drained _ c.requires.cards c.in-Err.refused.fault (rw (c.as_slice.ensures.value, c.as_slice-2.ensures.value) at c.in-Err.ensures.fault) _ c.fault_of.ensures.twice c.fault_of.ensures.memory
-
