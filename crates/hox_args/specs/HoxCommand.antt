@@ -1,13 +1,16 @@
 -- The command line: `hox check`, `hox run`, `hox draw` and `hox stream`, each on a FILE, with their options, and
 -- `hox kinds` of a NAME.
-use Rattle.std.specs.Prelude.{true, ℕ, List, codes, Some}
-use Rattle.clap.specs.Words.{App, Rule, new_app, new_rule, with_rule, with_subcommand}
+use Rattle.std.specs.Prelude.{◌≡◌, false, true, ℕ, List, codes, Some}
+use Rattle.clap.specs.Words.{App, Rule, new_app, new_rule, rule_of, with_rule, with_subcommand}
+use Rattle.clap.specs.declared.builder.arg.Arg.{Arg}
+use Rattle.kpn_args.specs.Command.{option_rule}
 use Rattle.clap.specs.declared.builder.action.ArgAction.TheVariants.{Append, SetTrue}
 
--- an option `--name VALUE`; a repeatable one; and a flag `--name`
-abbrev pub option_rule : List ℕ → Rule
-option_rule name = record (new_rule name) { long = Some name; value_names = 1 }
+-- the argument has this rule, and is not global
+abbrev pub IsLocalArg : Rule → Arg → Type 0
+IsLocalArg rule arg = (rule_of arg ≡ rule) × (arg.global ≡ false)
 
+-- a repeatable option `--name VALUE`; and a flag `--name`
 abbrev pub list_rule : List ℕ → Rule
 list_rule name = record (new_rule name) { long = Some name; action = Some Append; value_names = 1 }
 

@@ -1,24 +1,21 @@
 //! Parses the command line's arguments.
-ghost use Rattle.std.specs.Prelude.{◌≡◌, ◌==◌, ◌<◌, ◌≤◌, Some, None, IfOk, IfErr, MatchOption, length, map, option_map, codes, false, if◌then◌else◌};
+ghost use Rattle.std.specs.Prelude.{◌≡◌, ◌==◌, ◌<◌, Some, None, IfOk, IfErr, MatchOption, length, map, option_map, codes, false, if◌then◌else◌};
 ghost use Rattle.std.specs.Option.{option_map_or};
 ghost use Rattle.std.specs.List.{after_first, before_first, position_or_len};
 ghost use Rattle.std.specs.Str.{bytes_eq};
-ghost use Rattle.clap.specs.Words.{FailsBy, fault_of, first_of, found_of, rows_of, subcommand_of, subcommand_rows_of};
-ghost use Rattle.kpn_args.specs.Choices.{IsRefusedWorkers, IsWorkers, WorkersFrom};
+ghost use Rattle.clap.specs.Words.{FailsBy, fault_of, found_of, rows_of, subcommand_of, subcommand_rows_of};
 ghost use Rattle.kpn_picture.specs.declared.looks.Direction.TheVariants.{Right, Down};
 ghost use Rattle.hox_args.specs.HoxCommand.{hox};
-ghost use Rattle.hox_args.specs.HoxChoices.{AreHoxTaken, BudgetFrom, HasFewHoxWorkers, IsHoxChoice, IsHoxChoiceOf, IsHoxFault, IsNumber, IsRefusedBudget, IsRunFault, IsSubcommand, asks_for_hox_help, is_given, texts_of};
+ghost use Rattle.hox_args.specs.HoxChoices.{BudgetFrom, HasFewHoxWorkers, IsHoxChoice, IsHoxChoiceOf, IsHoxFault, IsNumber, IsRefusedBudget, IsRunFault, IsSubcommand, asks_for_hox_help, is_given, texts_of};
 
 use crate::command::command_line;
 use clap::ArgMatches;
 use clap::error::ErrorKind;
+use kpn_args::{subcommand_in, text_in, workers_in};
 use kpn_front::ExitStatus;
 use kpn_picture::Direction;
-use std::alloc::Global;
+use std::alloc::{AllocError, Global};
 use std::{error, fmt};
-
-/// The greatest number of workers.
-pub const MAX_WORKERS: usize = 16;
 
 /// The arguments of `hox run`: the description's file (standard input if absent or `-`); the token files and
 /// the output files of channels, as `CHANNEL=FILE`; the formats of files, as `CHANNEL=FORMAT`; the channels
@@ -161,6 +158,16 @@ impl fmt::Display for WordsFault {
 
 impl error::Error for WordsFault {}
 
+impl From<AllocError> for WordsFault {
+    ghost use Rattle.hox_args.specs.declared.arguments.WordsFault.{WordsFault};
+
+    ghost from_gives = { λ _ fault. fault ≡ WordsFault.Memory };
+
+    fn from(_error: AllocError) -> WordsFault {
+        WordsFault::Memory
+    }
+}
+
 /// Parses the arguments. The first is the program's name.
 ///
 /// Errors: see [`WordsFault`].
@@ -169,7 +176,7 @@ pub fn read_words<'a>(alloc: Global, words: &'a [&'a str]) -> Result<Choice<'a>,
     ensures workers { IfOk result HasFewHoxWorkers }
     ensures fault { IfErr result (IsHoxFault (map (λ w. w.now) words.entry.now)) }
 {
-    let matches = matches_of(alloc, words)?;
+    let matches = parse(alloc, words).map_err(WordsFault::Parser)?;
     let Some((name, entries)) = subcommand_in(&matches) else {
         unreachable!()
     };
@@ -190,23 +197,20 @@ fn choice_of<'a>(
 ) -> Result<Choice<'a>, WordsFault>
     requires { IsSubcommand name.now }
     ensures ok { IfOk result (IsHoxChoiceOf (Some (name.now, rows_of (found_of entries.now)))) }
-    ensures few { IfOk result HasFewHoxWorkers }
     ensures fault { IfErr result (IsRunFault (rows_of (found_of entries.now))) }
 {
     match name {
-        "check" => check_choice(alloc, entries),
+        "check" => Ok(check_choice(alloc, entries)?),
         "run" => run_choice(alloc, entries),
         "draw" => draw_choice(alloc, entries),
-        "stream" => stream_choice(alloc, entries),
+        "stream" => Ok(stream_choice(alloc, entries)?),
         "kinds" => Ok(kinds_choice(entries)),
         _ => unreachable!(),
     }
 }
 
-fn check_choice<'a>(alloc: Global, entries: &ArgMatches<'a>) -> Result<Choice<'a>, WordsFault>
-    ensures ok { IfOk result (IsHoxChoiceOf (Some (codes "check", rows_of (found_of entries.now)))) }
-    ensures few { IfOk result HasFewHoxWorkers }
-    ensures fault { IfErr result (λ e. e ≡ WordsFault.Memory) }
+fn check_choice<'a>(alloc: Global, entries: &ArgMatches<'a>) -> Result<Choice<'a>, AllocError>
+    ensures { IfOk result (IsHoxChoiceOf (Some (codes "check", rows_of (found_of entries.now)))) }
 {
     let tokens = texts_in(alloc, entries, "tokens")?;
     let formats = texts_in(alloc, entries, "format")?;
@@ -222,10 +226,9 @@ fn check_choice<'a>(alloc: Global, entries: &ArgMatches<'a>) -> Result<Choice<'a
 
 fn run_choice<'a>(alloc: Global, entries: &ArgMatches<'a>) -> Result<Choice<'a>, WordsFault>
     ensures ok { IfOk result (IsHoxChoiceOf (Some (codes "run", rows_of (found_of entries.now)))) }
-    ensures few { IfOk result HasFewHoxWorkers }
     ensures fault { IfErr result (IsRunFault (rows_of (found_of entries.now))) }
 {
-    let workers = workers_in(text_in(entries, "workers"))?;
+    let workers = workers_in(text_in(entries, "workers")).ok_or(WordsFault::Workers)?;
     let budget = budget_in(text_in(entries, "budget"))?;
     let tokens = texts_in(alloc, entries, "tokens")?;
     let outputs = texts_in(alloc, entries, "out")?;
@@ -253,10 +256,9 @@ fn run_choice<'a>(alloc: Global, entries: &ArgMatches<'a>) -> Result<Choice<'a>,
 
 fn draw_choice<'a>(alloc: Global, entries: &ArgMatches<'a>) -> Result<Choice<'a>, WordsFault>
     ensures ok { IfOk result (IsHoxChoiceOf (Some (codes "draw", rows_of (found_of entries.now)))) }
-    ensures few { IfOk result HasFewHoxWorkers }
     ensures fault { IfErr result (IsRunFault (rows_of (found_of entries.now))) }
 {
-    let count = workers_in(text_in(entries, "workers"))?;
+    let count = workers_in(text_in(entries, "workers")).ok_or(WordsFault::Workers)?;
     let tokens = texts_in(alloc, entries, "tokens")?;
     let formats = texts_in(alloc, entries, "format")?;
     let file = text_in(entries, "file");
@@ -271,10 +273,8 @@ fn draw_choice<'a>(alloc: Global, entries: &ArgMatches<'a>) -> Result<Choice<'a>
     }))
 }
 
-fn stream_choice<'a>(alloc: Global, entries: &ArgMatches<'a>) -> Result<Choice<'a>, WordsFault>
-    ensures ok { IfOk result (IsHoxChoiceOf (Some (codes "stream", rows_of (found_of entries.now)))) }
-    ensures few { IfOk result HasFewHoxWorkers }
-    ensures fault { IfErr result (λ e. e ≡ WordsFault.Memory) }
+fn stream_choice<'a>(alloc: Global, entries: &ArgMatches<'a>) -> Result<Choice<'a>, AllocError>
+    ensures { IfOk result (IsHoxChoiceOf (Some (codes "stream", rows_of (found_of entries.now)))) }
 {
     let file = text_in(entries, "file");
     let inputs = texts_in(alloc, entries, "in")?;
@@ -293,8 +293,7 @@ fn stream_choice<'a>(alloc: Global, entries: &ArgMatches<'a>) -> Result<Choice<'
 }
 
 fn kinds_choice<'a>(entries: &ArgMatches<'a>) -> Choice<'a>
-    ensures is { IsHoxChoiceOf (Some (codes "kinds", rows_of (found_of entries.now))) result }
-    ensures few { HasFewHoxWorkers result }
+    ensures { IsHoxChoiceOf (Some (codes "kinds", rows_of (found_of entries.now))) result }
 {
     Choice::Kinds(KindsChoice {
         name: text_in(entries, "name"),
@@ -332,27 +331,6 @@ fn is_true(text: Option<&str>) -> bool
     }
 }
 
-/// Parses the number of workers; 1 if there is no text.
-fn workers_in(text: Option<&str>) -> Result<usize, WordsFault>
-    ensures ok { IfOk result (WorkersFrom (option_map (λ s. s.now) text.entry)) }
-    ensures few { IfOk result (λ n. (1 ≤ n) × (n ≤ 16)) }
-    ensures workers { IfErr result (λ e. (e ≡ WordsFault.Workers) × IsRefusedWorkers (option_map (λ s. s.now) text.entry)) }
-{
-    match text {
-        Some(text) => workers_of(text).ok_or(WordsFault::Workers),
-        None => Ok(1),
-    }
-}
-
-fn workers_of(text: &str) -> Option<usize>
-    ensures { IsWorkers text.now result }
-{
-    match text.parse::<usize>() {
-        Ok(workers) if workers >= 1 && workers <= MAX_WORKERS => Some(workers),
-        _ => None,
-    }
-}
-
 fn budget_in(text: Option<&str>) -> Result<Option<u64>, WordsFault>
     ensures ok { IfOk result (BudgetFrom (option_map (λ s. s.now) text.entry)) }
     ensures budget { IfErr result (λ e. (e ≡ WordsFault.Budget) × IsRefusedBudget (option_map (λ s. s.now) text.entry)) }
@@ -372,41 +350,17 @@ fn number_of(text: &str) -> Option<u64>
     text.parse::<u64>().ok()
 }
 
-fn text_in<'a>(entries: &ArgMatches<'a>, id: &str) -> Option<&'a str>
-    ensures { option_map (λ s. s.now) result ≡ first_of id.now (rows_of (found_of entries.now)) }
-{
-    entries.get_str(id)
-}
-
 fn texts_in<'a>(
     alloc: Global,
     entries: &ArgMatches<'a>,
     id: &str,
-) -> Result<Vec<&'a str>, WordsFault>
-    ensures ok { IfOk result (λ v. map (λ s. s.now) v.items ≡ texts_of id.now (rows_of (found_of entries.now))) }
-    ensures memory { IfErr result (λ e. e ≡ WordsFault.Memory) }
+) -> Result<Vec<&'a str>, AllocError>
+    ensures { IfOk result (λ v. map (λ s. s.now) v.items ≡ texts_of id.now (rows_of (found_of entries.now))) }
 {
     match entries.get_strs(id) {
-        Some(texts) => match Vec::from_slice(alloc, texts) {
-            Ok(texts) => Ok(texts),
-            Err(_) => Err(WordsFault::Memory),
-        },
+        Some(texts) => Vec::from_slice(alloc, texts),
         None => Ok(Vec::new(alloc)),
     }
-}
-
-fn subcommand_in<'a, 'b>(matches: &'b ArgMatches<'a>) -> Option<(&'a str, &'b ArgMatches<'a>)>
-    ensures { option_map (λ p. (p.0.now, rows_of (found_of p.1.now))) result ≡ subcommand_rows_of matches.now }
-{
-    matches.subcommand()
-}
-
-fn matches_of<'a>(alloc: Global, words: &'a [&'a str]) -> Result<ArgMatches<'a>, WordsFault>
-    ensures taken { IfOk result (λ m. AreHoxTaken (map (λ w. w.now) words.entry.now)) }
-    ensures matches { IfOk result (λ m. subcommand_rows_of m ≡ subcommand_of hox (map (λ w. w.now) words.entry.now)) }
-    ensures fault { IfErr result (IsHoxFault (map (λ w. w.now) words.entry.now)) }
-{
-    parse(alloc, words).map_err(WordsFault::Parser)
 }
 
 fn parse<'a>(alloc: Global, words: &'a [&'a str]) -> Result<ArgMatches<'a>, clap::Error>

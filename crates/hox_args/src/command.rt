@@ -1,12 +1,12 @@
 //! The command line: its subcommands and their options.
-ghost use Rattle.std.specs.Prelude.{◌≡◌, codes, false};
-ghost use Rattle.clap.specs.Words.{app_of, new_app, rule_of};
+ghost use Rattle.std.specs.Prelude.{◌≡◌, codes};
+ghost use Rattle.clap.specs.Words.{app_of, new_app};
 ghost use Rattle.kpn_args.specs.Made.{IsLocal, Makes, MakesLocal};
-ghost use Rattle.hox_args.specs.HoxCommand.{bare_hox, budget_rule, flag_rule, hox, hox_check_command, hox_draw_command, hox_draw_flags, hox_file_rule, hox_four, hox_kinds_command, hox_run_bounds, hox_run_command, hox_run_streams, hox_stream_command, hox_two, list_rule, option_rule, out_rule, positional_rule, quiet_rule, workers_rule};
+ghost use Rattle.hox_args.specs.HoxCommand.{IsLocalArg, bare_hox, budget_rule, flag_rule, hox, hox_check_command, hox_draw_command, hox_draw_flags, hox_file_rule, hox_four, hox_kinds_command, hox_run_bounds, hox_run_command, hox_run_streams, hox_stream_command, hox_two, list_rule, out_rule, positional_rule, quiet_rule, workers_rule};
 
 use crate::help::{FILES, MORE, NAMES, PICTURES, STATUSES, STREAMS};
 use clap::{Arg, ArgAction, Command};
-use kpn_args::{with_arg, with_subcommand};
+use kpn_args::{bare, option, with_arg, with_subcommand};
 use std::alloc::{AllocError, Global};
 
 pub(crate) fn command_line<'a>(alloc: Global) -> Result<Command<'a>, AllocError>
@@ -156,74 +156,57 @@ fn on_files<'a>(alloc: Global, name: &'a str, about: &'a str) -> Command<'a>
     bare(alloc, name, about, MORE).after_long_help(FILES)
 }
 
-/// Makes a subcommand without arguments.
-fn bare<'a>(alloc: Global, name: &'a str, about: &'a str, after_help: &'a str) -> Command<'a>
-    ensures { IsLocal (new_app name.now) result }
-{
-    Command::new(alloc, name)
-        .about(about)
-        .after_help(after_help)
-}
-
 fn tokens<'a>(alloc: Global) -> Arg<'a>
-    ensures rule { rule_of result ≡ list_rule (codes "tokens") }
-    ensures local { result.global ≡ false }
+    ensures { IsLocalArg (list_rule (codes "tokens")) result }
 {
     let help = "Puts the file's tokens into the channel first";
     list(alloc, "tokens", "CHANNEL=FILE", help)
 }
 
 fn out<'a>(alloc: Global) -> Arg<'a>
-    ensures rule { rule_of result ≡ out_rule }
-    ensures local { result.global ≡ false }
+    ensures { IsLocalArg out_rule result }
 {
     let help = "Writes what goes through the channel to a file";
     list(alloc, "out", "CHANNEL=FILE", help).short('o')
 }
 
 fn format<'a>(alloc: Global) -> Arg<'a>
-    ensures rule { rule_of result ≡ list_rule (codes "format") }
-    ensures local { result.global ≡ false }
+    ensures { IsLocalArg (list_rule (codes "format")) result }
 {
     let help = "The file's format: text, csv, wav, s16le, ..";
     list(alloc, "format", "CHANNEL=FORMAT", help)
 }
 
 fn unsigned<'a>(alloc: Global) -> Arg<'a>
-    ensures rule { rule_of result ≡ list_rule (codes "unsigned") }
-    ensures local { result.global ≡ false }
+    ensures { IsLocalArg (list_rule (codes "unsigned")) result }
 {
     let help = "Writes the channel's words from 0 to 2^64 - 1";
     list(alloc, "unsigned", "CHANNEL", help)
 }
 
 fn budget<'a>(alloc: Global) -> Arg<'a>
-    ensures rule { rule_of result ≡ budget_rule }
-    ensures local { result.global ≡ false }
+    ensures { IsLocalArg budget_rule result }
 {
     let help = "The most entries [default: the description's]";
     option(alloc, "budget", "N", help).short('n')
 }
 
 fn workers<'a>(alloc: Global) -> Arg<'a>
-    ensures rule { rule_of result ≡ workers_rule }
-    ensures local { result.global ≡ false }
+    ensures { IsLocalArg workers_rule result }
 {
     let help = "How many workers run the network [default: 1]";
     option(alloc, "workers", "N", help).short('w')
 }
 
 fn quiet<'a>(alloc: Global) -> Arg<'a>
-    ensures rule { rule_of result ≡ quiet_rule }
-    ensures local { result.global ≡ false }
+    ensures { IsLocalArg quiet_rule result }
 {
     flag(alloc, "quiet", "Writes no report").short('q')
 }
 
 /// Makes a repeatable option `--name VALUE`.
 fn list<'a>(alloc: Global, name: &'a str, value: &'a str, help: &'a str) -> Arg<'a>
-    ensures rule { rule_of result ≡ list_rule name.now }
-    ensures local { result.global ≡ false }
+    ensures { IsLocalArg (list_rule name.now) result }
 {
     Arg::new(alloc, name)
         .long(name)
@@ -232,21 +215,9 @@ fn list<'a>(alloc: Global, name: &'a str, value: &'a str, help: &'a str) -> Arg<
         .help(help)
 }
 
-/// Makes an option `--name VALUE`.
-fn option<'a>(alloc: Global, name: &'a str, value: &'a str, help: &'a str) -> Arg<'a>
-    ensures rule { rule_of result ≡ option_rule name.now }
-    ensures local { result.global ≡ false }
-{
-    Arg::new(alloc, name)
-        .long(name)
-        .value_name(value)
-        .help(help)
-}
-
 /// Makes a flag `--name`.
 fn flag<'a>(alloc: Global, name: &'a str, help: &'a str) -> Arg<'a>
-    ensures rule { rule_of result ≡ flag_rule name.now }
-    ensures local { result.global ≡ false }
+    ensures { IsLocalArg (flag_rule name.now) result }
 {
     Arg::new(alloc, name)
         .long(name)
@@ -255,8 +226,7 @@ fn flag<'a>(alloc: Global, name: &'a str, help: &'a str) -> Arg<'a>
 }
 
 fn file<'a>(alloc: Global) -> Arg<'a>
-    ensures rule { rule_of result ≡ hox_file_rule }
-    ensures local { result.global ≡ false }
+    ensures { IsLocalArg hox_file_rule result }
 {
     let help = "The file of the description [default: standard input, as -]";
     positional(alloc, "file", "FILE", help)
@@ -264,8 +234,7 @@ fn file<'a>(alloc: Global) -> Arg<'a>
 
 /// Makes an argument without a name of its own.
 fn positional<'a>(alloc: Global, name: &'a str, value: &'a str, help: &'a str) -> Arg<'a>
-    ensures rule { rule_of result ≡ positional_rule name.now }
-    ensures local { result.global ≡ false }
+    ensures { IsLocalArg (positional_rule name.now) result }
 {
     Arg::new(alloc, name).value_name(value).help(help)
 }

@@ -6,8 +6,9 @@ mod command;
 mod help;
 
 pub use arguments::{
-    CheckChoice, Choice, DrawChoice, KindsChoice, MAX_WORKERS, RunChoice, StreamChoice, WordsFault,
+    CheckChoice, Choice, DrawChoice, KindsChoice, RunChoice, StreamChoice, WordsFault,
     channel_and_file, read_words,
 };
 pub use help::{FORMULA, KINDS};
+pub use kpn_args::MAX_WORKERS;
 pub use kpn_picture::Direction;

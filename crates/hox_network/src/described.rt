@@ -1,5 +1,5 @@
 //! Reads descriptions that may omit sorts and the budget, and may have negative arguments and start tokens.
-ghost use Rattle.std.specs.Prelude.{◌≡◌, ◌≤◌, ◌+◌, false, true, IfOk, IfErr, IfSome, IsUtf8, length, map};
+ghost use Rattle.std.specs.Prelude.{◌≡◌, ◌≤◌, ◌+◌, false, true, IfOk, IfSome, IsUtf8, length, map};
 ghost use Rattle.kpn_sketch.specs.declared.sketch.Delayed.{Delayed as DelayedV};
 ghost use Rattle.kpn_front.specs.Loading.{ConsumesAtMost, longest, without_text};
 ghost use Rattle.hox_network.specs.Budgets.{with_greatest_budget};
@@ -53,7 +53,9 @@ fn net_of_text<K: Kinds>(alloc: Global, text: &[u8]) -> Result<Net<K>, NetFault>
     ensures { LoadsMeant K.named K.signature false text.now result }
 {
     let described = read_delayed(alloc, text)?;
-    let meant = as_meant::<K>(alloc, text, described)?;
+    let Ok(meant) = as_meant::<K>(alloc, text, described) else {
+        return Err(NetFault::Memory);
+    };
     Net::check(alloc, &meant)
 }
 
@@ -71,47 +73,31 @@ pub fn sketch_by_ports<K: Kinds>(alloc: Global, text: &[u8]) -> Option<Sketch>
 }
 
 /// Completes the sketch of a text. Errors: out of memory.
-fn as_meant<K: Kinds>(alloc: Global, text: &[u8], described: Delayed) -> Result<Sketch, NetFault>
+fn as_meant<K: Kinds>(alloc: Global, text: &[u8], described: Delayed) -> Result<Sketch, AllocError>
     requires { IsUtf8 text.now }
-    ensures ok { IfOk result (λ meant. (written : DelayedV) × IsWrittenOut described written × (meant ≡ as_meant K.named K.signature text.now written)) }
-    ensures memory { IfErr result (λ e. e ≡ NetFault.Memory) }
+    ensures { IfOk result (λ meant. (written : DelayedV) × IsWrittenOut described written × (meant ≡ as_meant K.named K.signature text.now written)) }
 {
-    match completed::<K>(alloc, text, described) {
-        Ok(written) => sorted_by_ports::<K>(alloc, written),
-        Err(_) => Err(NetFault::Memory),
-    }
+    let written = completed::<K>(alloc, text, described)?;
+    sorted_by_ports::<K>(alloc, written)
 }
 
-/// Writes the formulas as cards, and all but the sorts out.
+/// Writes the formulas as cards, sets the default budget, the signed kinds and start tokens and the delays, and
+/// adds the copies.
 fn completed<K: Kinds>(alloc: Global, text: &[u8], described: Delayed) -> Result<Sketch, AllocError>
     requires { IsUtf8 text.now }
     ensures { IfOk result (λ sketch. (written : DelayedV) × IsWrittenOut described written × (sketch ≡ with_copies K.named K.signature (with_delays K.named K.signature written.delays (with_signs K.named K.signature (with_greatest_budget text.now written.sketch))))) }
 {
     let Delayed { sketch, delays } = described;
-    let sketch = with_formulas(alloc, sketch)?;
-    written_out::<K>(alloc, text, Delayed { sketch, delays })
-}
-
-/// Sets the default budget, the signed kinds and start tokens and the delays, and adds the copies.
-fn written_out<K: Kinds>(
-    alloc: Global,
-    text: &[u8],
-    described: Delayed,
-) -> Result<Sketch, AllocError>
-    requires { IsUtf8 text.now }
-    ensures { IfOk result (λ written. written ≡ with_copies K.named K.signature (with_delays K.named K.signature described.delays (with_signs K.named K.signature (with_greatest_budget text.now described.sketch)))) }
-{
-    let Delayed { sketch, delays } = described;
-    let budgeted = with_greatest_budget(alloc, text, sketch)?;
+    let written = with_formulas(alloc, sketch)?;
+    let budgeted = with_greatest_budget(alloc, text, written)?;
     let signed = with_signs::<K>(alloc, budgeted)?;
     let delayed = with_delays::<K>(alloc, signed, delays.as_slice())?;
     with_copies::<K>(alloc, delayed)
 }
 
 /// Gives the channels the sorts of their ports. Errors: out of memory.
-fn sorted_by_ports<K: Kinds>(alloc: Global, sketch: Sketch) -> Result<Sketch, NetFault>
-    ensures ok { IfOk result (λ sorted. sorted ≡ by_ports K.named K.signature sketch) }
-    ensures memory { IfErr result (λ e. e ≡ NetFault.Memory) }
+fn sorted_by_ports<K: Kinds>(alloc: Global, sketch: Sketch) -> Result<Sketch, AllocError>
+    ensures { IfOk result (λ sorted. sorted ≡ by_ports K.named K.signature sketch) }
 {
     let Sketch {
         version,
@@ -138,15 +124,12 @@ fn channels_by_ports<K: Kinds>(
     alloc: Global,
     sketch: &Sketch,
     channels: Vec<ChannelSketch>,
-) -> Result<Vec<ChannelSketch>, NetFault>
-    ensures ok { IfOk result (λ v. v.items ≡ map (channel_by_ports K.named K.signature sketch.now) channels.items) }
-    ensures memory { IfErr result (λ e. e ≡ NetFault.Memory) }
+) -> Result<Vec<ChannelSketch>, AllocError>
+    ensures { IfOk result (λ v. v.items ≡ map (channel_by_ports K.named K.signature sketch.now) channels.items) }
 {
     let mut sorted = Vec::new(alloc);
     for channel in channels {
-        if sorted.push(channel_by_ports::<K>(sketch, channel)).is_err() {
-            return Err(NetFault::Memory);
-        }
+        sorted.push(channel_by_ports::<K>(sketch, channel))?;
     }
     Ok(sorted)
 }

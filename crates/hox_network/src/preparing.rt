@@ -3,7 +3,6 @@ ghost use Rattle.std.specs.Prelude.{◌≡◌, ◌+◌, OnOk, IfErr, MatchResult
 ghost use Rattle.kpn_model.specs.Valid.{IsValid};
 ghost use Rattle.kpn_network.specs.Parts.{network_of};
 ghost use Rattle.kpn_front.specs.Loading.{ConsumesAtMost, longest};
-ghost use Rattle.hox_network.specs.Presets.{PresetAll};
 ghost use Rattle.hox_network.specs.Preparing.{GivesNet, IsFault, Prepares, Serves, channel_names};
 
 use crate::described::load_by_ports;
@@ -58,34 +57,18 @@ fn prepare_parts<K: Kinds>(
     ensures ok { OnOk result (Prepares request.now net.now (network_of parts.new)) }
     ensures fault { IfErr result (IsFault request.now net.now) }
 {
-    hold_files(alloc, request, net, parts)?;
+    if let Err(stop) = preset::<K>(alloc, parts, request.tokens.as_slice()) {
+        return match stop.fault {
+            FileFault::NoChannel => Err(Fault::NoHolder(stop.file, names_in(alloc, net)?)),
+            _ => Err(Fault::Tokens(stop)),
+        };
+    }
     if let Some(budget) = request.budget {
         if !set_budget::<K>(parts, budget) {
             return Err(Fault::Budget(greatest_budget(parts.ceiling)));
         }
     }
     Ok(())
-}
-
-fn hold_files<K: Kinds>(
-    alloc: Global,
-    request: &Request,
-    net: &Net<K>,
-    parts: &mut Parts,
-) -> Result<(), Fault>
-    requires valid { IsValid K.signature (network_of parts.old) }
-    requires same { network_of parts.old ≡ net.now }
-    ensures valid { IsValid K.signature (network_of parts.new) }
-    ensures ok { OnOk result (PresetAll request.now.tokens net.now (network_of parts.new)) }
-    ensures fault { IfErr result (IsFault request.now net.now) }
-{
-    match preset::<K>(alloc, parts, request.tokens.as_slice()) {
-        Ok(()) => Ok(()),
-        Err(stop) => match stop.fault {
-            FileFault::NoChannel => Err(Fault::NoHolder(stop.file, names_in(alloc, net)?)),
-            _ => Err(Fault::Tokens(stop)),
-        },
-    }
 }
 
 fn names_in<K: Kinds>(alloc: Global, net: &Net<K>) -> Result<Listed<Text>, Fault>

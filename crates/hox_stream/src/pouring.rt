@@ -56,20 +56,6 @@ fn take_said<B: Body, S: Source>(
     true
 }
 
-/// Takes the next record and feeds its token, if there are room and a record. Returns whether it did. Without
-/// room it reads no record.
-fn take_record<B: Body, S: Source>(alloc: Global, flow: &mut Flow<B>, inlet: &mut Inlet<S>) -> bool
-    ensures { PoursKept (family B.Kinds.Kinds) flow.old flow.new inlet.old inlet.new }
-{
-    if !flow.has_room(inlet.channel()) {
-        return false;
-    }
-    let Next::Record { said, used } = inlet.next(alloc) else {
-        return false;
-    };
-    take_said(flow, inlet, said, used)
-}
-
 fn take_records<B: Body, S: Source>(
     alloc: Global,
     flow: &mut Flow<B>,
@@ -116,7 +102,10 @@ fn take_some<B: Body, S: Source>(
     if taken > 0 {
         return taken;
     }
-    usize::from(take_record(alloc, flow, inlet))
+    match inlet.next(alloc) {
+        Next::Record { said, used } => usize::from(take_said(flow, inlet, said, used)),
+        _ => 0,
+    }
 }
 
 /// Returns the starting capacity of a channel; 1 if there is no such channel.

@@ -53,19 +53,10 @@ pub(crate) fn append_next(
     ensures lanes { OnOk result (lanes.new ≡ map under lanes.old) }
     ensures heads { heads_of lanes.new ≡ heads_of lanes.old }
 {
-    next_row(lanes, row)?;
-    append_row(waiting, table, row.as_slice())
-}
-
-fn next_row(lanes: &mut [Lane], row: &mut Vec<Cell>) -> Result<(), AllocError>
-    ensures row { OnOk result (row.new.items ≡ map first_cell (columns_of lanes.old)) }
-    ensures lanes { OnOk result (lanes.new ≡ map under lanes.old) }
-    ensures heads { heads_of lanes.new ≡ heads_of lanes.old }
-{
     row.clear();
     for k in 0..lanes.len() {
         let cell = lanes[k].pop();
         row.push(cell)?;
     }
-    Ok(())
+    append_row(waiting, table, row.as_slice())
 }

@@ -160,30 +160,12 @@ fn start<F: Computes>(
     ensures outputs { IfOk result (λ s. s.outputs ≡ outputs.items) }
     ensures fault { IfErr result (IsStartFault inputs.items outputs.items) }
 {
-    match flow_between(alloc, net, bodies, inputs.as_slice(), outputs.as_slice()) {
+    match Flow::open(alloc, net, bodies, inputs.as_slice(), outputs.as_slice()) {
         Ok(flow) => Ok(OpenStream {
             flow,
             inputs,
             outputs,
         }),
-        Err(fault) => Err(fault),
-    }
-}
-
-fn flow_between<F: Computes>(
-    alloc: Global,
-    net: Net<F>,
-    bodies: Vec<CardBody<F>>,
-    inputs: &[usize],
-    outputs: &[usize],
-) -> Result<Flow<CardBody<F>>, StreamFault>
-    requires { MayFlow (family F.Kinds) net (map ⟦<CardBody<F> as Body>⟧.card bodies.items) inputs.now outputs.now }
-    ensures fresh { IfOk result (IsFresh (family F.Kinds) net) }
-    ensures start { IfOk result (λ flow. IsStart (family F.Kinds) flow inputs.now outputs.now) }
-    ensures fault { IfErr result (IsStartFault inputs.now outputs.now) }
-{
-    match Flow::open(alloc, net, bodies, inputs, outputs) {
-        Ok(flow) => Ok(flow),
         Err(refused) => Err(fault_of(refused.fault)),
     }
 }

@@ -1,13 +1,14 @@
 //! The arguments of the command line.
-ghost use Rattle.std.specs.Prelude.{◌≡◌, ◌⊎◌, ◌≤◌, IfOk, IfErr, Some, false, map, option_map, codes, if◌then◌else◌};
-ghost use Rattle.clap.specs.Words.{FailsBy, app_of, fault_of, first_of, found_of, new_app, rows_of, rule_of, subcommand_of, subcommand_rows_of};
-ghost use Rattle.kpn_args.specs.Command.{kpn, bare_command, check_command, run_command, option_rule};
+ghost use Rattle.std.specs.Prelude.{◌≡◌, ◌⊎◌, IfOk, IfErr, Some, false, map, codes, if◌then◌else◌};
+ghost use Rattle.clap.specs.Words.{FailsBy, app_of, fault_of, first_of, found_of, rows_of, subcommand_of, subcommand_rows_of};
+ghost use Rattle.kpn_args.specs.Command.{kpn, bare_command, check_command, run_command};
 ghost use Rattle.kpn_args.specs.Made.{IsLocal, Makes, MakesLocal};
-ghost use Rattle.kpn_args.specs.Choices.{IsWorkers, WorkersFrom, IsRefusedWorkers, HasFewWorkers, IsChoice, IsChoiceOf, AreTaken, IsWordsFault, asks_for_help};
+ghost use Rattle.kpn_args.specs.Choices.{IsRefusedWorkers, HasFewWorkers, IsChoice, IsChoiceOf, IsWordsFault, asks_for_help};
 
-use crate::making::{with_arg, with_subcommand};
+use crate::entries::{subcommand_in, text_in, workers_in};
+use crate::making::{bare, option, with_arg, with_subcommand};
 use clap::error::ErrorKind;
-use clap::{Arg, ArgMatches, Command};
+use clap::{ArgMatches, Command};
 use kpn_front::ExitStatus;
 use std::alloc::{AllocError, Global};
 use std::{error, fmt};
@@ -147,7 +148,7 @@ pub fn read_words<'a>(alloc: Global, words: &'a [&'a str]) -> Result<Choice<'a>,
     ensures workers { IfOk result HasFewWorkers }
     ensures fault { IfErr result (IsWordsFault (map (λ w. w.now) words.entry.now)) }
 {
-    let matches = matches_of(alloc, words)?;
+    let matches = parse(alloc, words).map_err(WordsFault::Parser)?;
     let Some((name, entries)) = subcommand_in(&matches) else {
         unreachable!()
     };
@@ -157,65 +158,17 @@ pub fn read_words<'a>(alloc: Global, words: &'a [&'a str]) -> Result<Choice<'a>,
 fn choice_of<'a>(name: &str, entries: &ArgMatches<'a>) -> Result<Choice<'a>, WordsFault>
     requires { (name.now ≡ codes "check") ⊎ (name.now ≡ codes "run") }
     ensures ok { IfOk result (IsChoiceOf (Some (name.now, rows_of (found_of entries.now)))) }
-    ensures few { IfOk result HasFewWorkers }
     ensures workers { IfErr result (λ e. (e ≡ WordsFault.Workers) × IsRefusedWorkers (first_of (codes "workers") (rows_of (found_of entries.now)))) }
 {
     match name {
         "check" => Ok(Choice::Check),
-        "run" => run_choice(entries),
+        "run" => {
+            let workers = workers_in(text_in(entries, "workers")).ok_or(WordsFault::Workers)?;
+            let show = text_in(entries, "show");
+            Ok(Choice::Run { workers, show })
+        }
         _ => unreachable!(),
     }
-}
-
-fn run_choice<'a>(entries: &ArgMatches<'a>) -> Result<Choice<'a>, WordsFault>
-    ensures ok { IfOk result (IsChoiceOf (Some (codes "run", rows_of (found_of entries.now)))) }
-    ensures few { IfOk result HasFewWorkers }
-    ensures workers { IfErr result (λ e. (e ≡ WordsFault.Workers) × IsRefusedWorkers (first_of (codes "workers") (rows_of (found_of entries.now)))) }
-{
-    let workers = workers_in(text_in(entries, "workers"))?;
-    let show = text_in(entries, "show");
-    Ok(Choice::Run { workers, show })
-}
-
-/// Returns 1 if there is no text.
-fn workers_in(text: Option<&str>) -> Result<usize, WordsFault>
-    ensures ok { IfOk result (WorkersFrom (option_map (λ s. s.now) text.entry)) }
-    ensures few { IfOk result (λ n. (1 ≤ n) × (n ≤ MAX_WORKERS)) }
-    ensures workers { IfErr result (λ e. (e ≡ WordsFault.Workers) × IsRefusedWorkers (option_map (λ s. s.now) text.entry)) }
-{
-    match text {
-        Some(text) => workers_of(text).ok_or(WordsFault::Workers),
-        None => Ok(1),
-    }
-}
-
-fn workers_of(text: &str) -> Option<usize>
-    ensures { IsWorkers text.now result }
-{
-    match text.parse::<usize>() {
-        Ok(workers) if workers >= 1 && workers <= MAX_WORKERS => Some(workers),
-        _ => None,
-    }
-}
-
-fn text_in<'a>(entries: &ArgMatches<'a>, id: &str) -> Option<&'a str>
-    ensures { option_map (λ s. s.now) result ≡ first_of id.now (rows_of (found_of entries.now)) }
-{
-    entries.get_str(id)
-}
-
-fn subcommand_in<'a, 'b>(matches: &'b ArgMatches<'a>) -> Option<(&'a str, &'b ArgMatches<'a>)>
-    ensures { option_map (λ p. (p.0.now, rows_of (found_of p.1.now))) result ≡ subcommand_rows_of matches.now }
-{
-    matches.subcommand()
-}
-
-fn matches_of<'a>(alloc: Global, words: &'a [&'a str]) -> Result<ArgMatches<'a>, WordsFault>
-    ensures taken { IfOk result (λ m. AreTaken (map (λ w. w.now) words.entry.now)) }
-    ensures matches { IfOk result (λ m. subcommand_rows_of m ≡ subcommand_of kpn (map (λ w. w.now) words.entry.now)) }
-    ensures fault { IfErr result (IsWordsFault (map (λ w. w.now) words.entry.now)) }
-{
-    parse(alloc, words).map_err(WordsFault::Parser)
 }
 
 fn parse<'a>(alloc: Global, words: &'a [&'a str]) -> Result<ArgMatches<'a>, clap::Error>
@@ -247,7 +200,7 @@ fn check<'a>(alloc: Global) -> Command<'a>
     ensures { IsLocal check_command result }
 {
     let about = "Checks a description, and counts its processes and channels";
-    bare(alloc, "check", about)
+    bare(alloc, "check", about, INPUT)
 }
 
 fn run<'a>(alloc: Global) -> Result<Command<'a>, AllocError>
@@ -256,23 +209,7 @@ fn run<'a>(alloc: Global) -> Result<Command<'a>, AllocError>
     let about = "Runs the network of a description, and reports its end";
     let workers = "How many workers run the network [default: 1]";
     let show = "Also prints the tokens written to this channel";
-    let run = Ok(bare(alloc, "run", about));
+    let run = Ok(bare(alloc, "run", about, INPUT));
     let run = with_arg(run, option(alloc, "workers", "N", workers));
     with_arg(run, option(alloc, "show", "NAME", show))
-}
-
-fn bare<'a>(alloc: Global, name: &'a str, about: &'a str) -> Command<'a>
-    ensures { IsLocal (new_app name.now) result }
-{
-    Command::new(alloc, name).about(about).after_help(INPUT)
-}
-
-fn option<'a>(alloc: Global, name: &'a str, value: &'a str, help: &'a str) -> Arg<'a>
-    ensures rule { rule_of result ≡ option_rule name.now }
-    ensures local { result.global ≡ false }
-{
-    Arg::new(alloc, name)
-        .long(name)
-        .value_name(value)
-        .help(help)
 }

@@ -2,7 +2,9 @@
 #![tactic(auto)]
 
 mod arguments;
+mod entries;
 mod making;
 
 pub use arguments::{Choice, MAX_WORKERS, WordsFault, read_words};
-pub use making::{with_arg, with_subcommand};
+pub use entries::{subcommand_in, text_in, workers_in};
+pub use making::{bare, option, with_arg, with_subcommand};

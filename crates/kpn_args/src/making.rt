@@ -1,8 +1,9 @@
 //! Makes a command line one argument or subcommand at a time, passing an error on to the end, where the
 //! caller sees it.
 ghost use Rattle.std.specs.Prelude.{◌≡◌, false};
-ghost use Rattle.clap.specs.Words.{App, Rule, rule_of, with_rule, with_subcommand};
-ghost use Rattle.kpn_args.specs.Made.{Makes, MakesLocal};
+ghost use Rattle.clap.specs.Words.{App, Rule, new_app, rule_of, with_rule, with_subcommand};
+ghost use Rattle.kpn_args.specs.Command.{option_rule};
+ghost use Rattle.kpn_args.specs.Made.{IsLocal, Makes, MakesLocal};
 
 use clap::{Arg, Command};
 use std::alloc::{AllocError, Global};
@@ -30,4 +31,24 @@ pub fn with_subcommand<'a>(
     ensures { (app below : App) → Makes app command.entry → MakesLocal below subcommand.entry → Makes (with_subcommand app below.top) result }
 {
     command?.subcommand(subcommand?)
+}
+
+/// Makes a subcommand without arguments.
+pub fn bare<'a>(alloc: Global, name: &'a str, about: &'a str, after_help: &'a str) -> Command<'a>
+    ensures { IsLocal (new_app name.now) result }
+{
+    Command::new(alloc, name)
+        .about(about)
+        .after_help(after_help)
+}
+
+/// Makes an option `--name VALUE`.
+pub fn option<'a>(alloc: Global, name: &'a str, value: &'a str, help: &'a str) -> Arg<'a>
+    ensures rule { rule_of result ≡ option_rule name.now }
+    ensures local { result.global ≡ false }
+{
+    Arg::new(alloc, name)
+        .long(name)
+        .value_name(value)
+        .help(help)
 }

@@ -8,7 +8,7 @@ ghost use Rattle.csv.specs.Records.{field_at, fields_of};
 ghost use Rattle.kpn_tokens.specs.Records.{IsSaidOf};
 ghost use Rattle.kpn_tokens.specs.Rows.{IsAtLine, config_of, field_said, is_open, is_open_field, row_in, row_said, seen_row};
 
-use crate::layouts::{Column, Decimals, RecordFault, Separator};
+use crate::layouts::{Column, RecordFault, Separator};
 use crate::numbers::token_in;
 use csv::{ByteRecord, Reader, ReaderBuilder};
 use kpn_model::{Sort, Token};
@@ -125,16 +125,9 @@ fn said_by_fields(
     ensures said { result ≡ field_said column.decimals sort (field_at (fields_of row.now) column.place) }
     ensures sorted { IsSaidOf sort result }
 {
-    match row.get(column.place) {
-        Some(field) => said_by_field(column.decimals, sort, field),
-        None => Err(RecordFault::NoField),
-    }
-}
-
-fn said_by_field(decimals: Decimals, sort: Sort, field: &[u8]) -> Result<Option<Token>, RecordFault>
-    ensures said { result ≡ field_said decimals sort (Some field.now) }
-    ensures sorted { IsSaidOf sort result }
-{
+    let Some(field) = row.get(column.place) else {
+        return Err(RecordFault::NoField);
+    };
     let Ok(text) = str::from_utf8(field) else {
         return Err(RecordFault::NoText);
     };
@@ -142,5 +135,5 @@ fn said_by_field(decimals: Decimals, sort: Sort, field: &[u8]) -> Result<Option<
     if text.is_empty() {
         return Err(RecordFault::EmptyField);
     }
-    token_in(decimals, sort, text)
+    token_in(column.decimals, sort, text)
 }

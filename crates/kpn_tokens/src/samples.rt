@@ -1,7 +1,7 @@
 //! Words and flags as samples.
-ghost use Rattle.std.specs.Prelude.{◌≡◌, ◌<◌, ◌≤◌, ◌++◌, OnOk, drop, length, true};
+ghost use Rattle.std.specs.Prelude.{◌≡◌, ◌<◌, ◌≤◌, ◌++◌, OnOk, length, true};
 ghost use Rattle.kpn_tokens.specs.Records.{IsSaidOf};
-ghost use Rattle.kpn_tokens.specs.Samples.{bytes_in, bytes_of, frame_said, half_of, is_fit, nearest, number_for, number_in, numbers_of, sample_said, token_for, word_for, word_from, word_sample};
+ghost use Rattle.kpn_tokens.specs.Samples.{bytes_in, bytes_of, frame_said, half_of, is_fit, nearest, number_for, number_in, numbers_of, word_for, word_from, word_sample};
 
 use crate::layouts::{Coding, Endian, Frame, RecordFault, Sample, Width};
 use byteorder::{BigEndian, ByteOrder, LittleEndian};
@@ -18,13 +18,6 @@ pub fn token_of_frame(frame: &Frame, sort: Sort, bytes: &[u8]) -> Result<Option<
         return Err(RecordFault::CutShort);
     }
     let word = word_in(&frame.sample, &bytes[frame.before as usize..]);
-    token_of(sort, word)
-}
-
-fn token_of(sort: Sort, word: u64) -> Result<Option<Token>, RecordFault>
-    ensures said { result ≡ token_for sort word }
-    ensures sorted { IsSaidOf sort result }
-{
     match (sort, word) {
         (Sort::Words, _) => Ok(Some(Token::Word(word))),
         (Sort::Flags, 0) => Ok(Some(Token::Flag(false))),
@@ -37,19 +30,11 @@ fn word_in(sample: &Sample, bytes: &[u8]) -> u64
     requires { bytes_in sample.now.width ≤ length bytes.now }
     ensures { result ≡ word_from sample.now.coding sample.now.width (number_in sample.now.endian (bytes_in sample.now.width) bytes.now) }
 {
-    let number = number_of(sample.endian, sample.width, bytes);
+    let number = match sample.endian {
+        Endian::Little => number_by::<LittleEndian>(sample.width, bytes),
+        Endian::Big => number_by::<BigEndian>(sample.width, bytes),
+    };
     word_of(sample.coding, sample.width, number)
-}
-
-fn number_of(endian: Endian, width: Width, bytes: &[u8]) -> u64
-    requires { bytes_in width ≤ length bytes.now }
-    ensures is { result ≡ number_in endian (bytes_in width) bytes.now }
-    ensures fits { result < numbers_of width }
-{
-    match endian {
-        Endian::Little => number_by::<LittleEndian>(width, bytes),
-        Endian::Big => number_by::<BigEndian>(width, bytes),
-    }
 }
 
 fn number_by<O: ByteOrder>(width: Width, bytes: &[u8]) -> u64

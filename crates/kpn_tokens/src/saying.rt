@@ -64,18 +64,6 @@ pub fn first_line(decimals: Decimals, sort: Sort, bytes: &[u8]) -> Option<Line>
             });
         }
     }
-    any_line_in(decimals, sort, bytes)
-}
-
-#[cold]
-#[inline(never)]
-fn any_line_in(decimals: Decimals, sort: Sort, bytes: &[u8]) -> Option<Line>
-    ensures none { IfNone result (position_or_len is_line_feed bytes.now ≡ length bytes.now) }
-    ensures ends { IfSome result (λ line. line.length ≡ position_or_len is_line_feed bytes.now) }
-    ensures within { IfSome result (λ line. line.length < length bytes.now) }
-    ensures said { IfSome result (λ line. line.said ≡ text_said decimals sort (strip_bom (before_first is_line_feed bytes.now))) }
-    ensures sorted { IfSome result (λ line. IsSaidOf sort line.said) }
-{
     match line_in(bytes) {
         Some(cut) => Some(Line {
             length: cut.length,
@@ -97,6 +85,8 @@ fn is_marked(text: &[u8]) -> bool
     text.len() > 2 && text[0] == 0xEF && text[1] == 0xBB && text[2] == 0xBF
 }
 
+#[cold]
+#[inline(never)]
 fn said_by_line(decimals: Decimals, sort: Sort, line: &[u8]) -> Result<Option<Token>, RecordFault>
     ensures said { result ≡ text_said decimals sort line.now }
     ensures sorted { IsSaidOf sort result }

@@ -7,11 +7,11 @@ returns-clause-ok c = (
   refl,
   record {
     file = c.text_in-file.ensures;
-    tokens = c.in_ok-tokens.ensures.ok;
-    formats = c.in_ok-formats.ensures.ok;
+    tokens = c.in_ok-tokens.ensures;
+    formats = c.in_ok-formats.ensures;
     direction = rw c.has_flag.ensures at c.direction_of-direction.ensures;
     count = c.in_ok-count.count;
-    read = rw c.text_in.ensures at c.in_ok-count.ensures.ok;
+    read = rw (c.in_ok-count.ensures.ok_part, c.text_in.ensures) at c.workers_in.ensures.workers;
     workers = rw c.has_flag-2.ensures at c.asked_for-workers.ensures;
   },
 )

@@ -3,5 +3,5 @@ use Rattle.hox_args.proofs.command.draw.Goals as goal
 
 pub returns : goal.returns
 returns c =
-    let read = c.with_arg-draw-2.ensures _ _ (c.with_arg-draw.ensures _ _ c.draw_flags.ensures c.workers.ensures.rule) c.tokens.ensures.rule in
-    c.with_arg.ensures _ _ (c.with_arg-draw-3.ensures _ _ read c.format.ensures.rule) c.file.ensures.rule
+    let read = c.with_arg-draw-2.ensures _ _ (c.with_arg-draw.ensures _ _ c.draw_flags.ensures c.workers.ensures.0) c.tokens.ensures.0 in
+    c.with_arg.ensures _ _ (c.with_arg-draw-3.ensures _ _ read c.format.ensures.0) c.file.ensures.0

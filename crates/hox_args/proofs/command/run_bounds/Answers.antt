@@ -2,4 +2,4 @@
 use Rattle.hox_args.proofs.command.run_bounds.Goals as goal
 
 pub returns : goal.returns
-returns c = c.with_arg.ensures _ _ (c.with_arg-run.ensures _ _ c.run_streams.ensures c.budget.ensures.rule) c.workers.ensures.rule
+returns c = c.with_arg.ensures _ _ (c.with_arg-run.ensures _ _ c.run_streams.ensures c.budget.ensures.0) c.workers.ensures.0

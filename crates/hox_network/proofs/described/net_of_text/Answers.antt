@@ -13,7 +13,7 @@ returns g c =
     let text = c.args.text.now in
     let described = c.in_ok-described.described in
     let describes = c.in_ok-described.ensures.ok in
-    let written = c.in_ok-meant.ensures.ok in
+    let written = c.in-Ok.ensures in
     record {
       write = λ _. written.0;
       out = writes_this text described written.0 describes written.1;
@@ -24,5 +24,5 @@ returns g c =
 pub returns-in_err-described : goal.returns-in_err-described
 returns-in_err-described g c = loads_unread g.K.Kinds.named g.K.Kinds.signature false c.args.text.now c.from_residual.result (search rules)
 
-pub returns-in_err-meant : goal.returns-in_err-meant
-returns-in_err-meant g c = loads_unread g.K.Kinds.named g.K.Kinds.signature false c.args.text.now c.from_residual-in_err-meant.result (search rules)
+pub returns-in_default : goal.returns-in_default
+returns-in_default g c = loads_unread g.K.Kinds.named g.K.Kinds.signature false c.args.text.now _ (search rules)

@@ -8,8 +8,8 @@ use Rattle.hox_stream.proofs.pouring.take_some.Goals as goal
 pub returns-then-not-has_room : goal.returns-then-not-has_room
 returns-then-not-has_room g c = record { pours = pours_none (family_of g.B.Kinds.Kinds.start g.B.Kinds.Kinds.answer_of) _ _ _ _ refl refl; unread = not_read_same _ }
 
-pub returns : goal.returns
-returns g c = record {
-  pours = pours_both (family_of g.B.Kinds.Kinds.start g.B.Kinds.Kinds.answer_of) _ _ _ _ _ _ c.take_batch-taken.ensures.pours c.take_record.ensures.pours;
-  unread = not_read_both _ _ _ c.take_batch-taken.ensures.unread c.take_record.ensures.unread;
+pub returns-in-Record : goal.returns-in-Record
+returns-in-Record g c = record {
+  pours = pours_both (family_of g.B.Kinds.Kinds.start g.B.Kinds.Kinds.answer_of) _ _ _ _ _ _ c.take_batch-taken.ensures.pours c.take_said.ensures.pours;
+  unread = not_read_both _ _ _ c.take_batch-taken.ensures.unread c.take_said.ensures.unread;
 }

@@ -7,7 +7,7 @@ use Rattle.kpn_tokens.specs.Tables.{first_cell}
 use Rattle.hox_stream.specs.Tables.{column_of, columns_of, heads_of, under}
 use Rattle.hox_stream.specs.Views.{LaneView, no_lane}
 use Rattle.hox_stream.proofs.Lanes.{cells_more, walked, walked_heads, walked_next}
-use Rattle.hox_stream.proofs.rows.next_row.Goals as goal
+use Rattle.hox_stream.proofs.rows.append_next.Goals as goal
 
 pub returns-in_err-push-clause-heads : goal.returns-in_err-push-clause-heads
 returns-in_err-push-clause-heads c =
@@ -37,9 +37,6 @@ loop-k-preserved c =
 
 pub returns-clause-heads : goal.returns-clause-heads
 returns-clause-heads c = ap heads_of c.loop-k.invariant.lanes ∙ walked_heads c.args.lanes.now c.loop-k.k
-
-pub returns-clause-row : goal.returns-clause-row
-returns-clause-row c = grind (arith, common_steps)
 
 pub returns-clause-lanes : goal.returns-clause-lanes
 returns-clause-lanes c = grind (arith, common_steps)

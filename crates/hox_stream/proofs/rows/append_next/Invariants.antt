@@ -1,7 +1,7 @@
 use Rattle.std.proofs.Common.{◌≡◌, ◌++◌, drop, map, take}
 use Rattle.kpn_tokens.specs.Tables.{first_cell}
 use Rattle.hox_stream.specs.Tables.{columns_of, under}
-use Rattle.hox_stream.proofs.rows.next_row.Given as goal
+use Rattle.hox_stream.proofs.rows.append_next.Given as goal
 
 abbrev pub invariant-loop-k : goal.invariant-loop-k
 invariant-loop-k l = record {
