@@ -1,7 +1,6 @@
 //! Writes sketches as texts.
-ghost use Rattle.std.specs.Prelude.{◌≡◌, ◌↔◌, false, Err, IfOk, OnOk, length, string_bytes};
+ghost use Rattle.std.specs.Prelude.{◌≡◌, ◌↔◌, false, Err, IfOk, string_bytes};
 ghost use Rattle.std.specs.List.{list_all};
-ghost use Rattle.toml.specs.Data.{no_members};
 ghost use Rattle.toml.specs.View.{table_view};
 ghost use Rattle.kpn_sketch.specs.Description.{Describes};
 ghost use Rattle.kpn_builder.specs.Written.{has_no_tokens, has_said_tokens, is_describable, is_said, sketch_members, version_members};
@@ -92,34 +91,26 @@ fn is_describable(sketch: &Sketch) -> bool
     }
 }
 
-/// Puts the last members of the top level, in key order, into a table.
-fn put_version(alloc: Global, table: &mut Table, sketch: &Sketch) -> Result<(), AllocError>
-    requires { table_view table.old ≡ no_members }
-    ensures { OnOk result (table_view table.new ≡ version_members sketch.now) }
+/// Returns a table of the last members of the top level, put in key order.
+fn version_table(alloc: Global, sketch: &Sketch) -> Result<Table, AllocError>
+    ensures { IfOk result (λ t. table_view t ≡ version_members sketch.now) }
 {
+    let mut table = Table::new(alloc);
     let two = is_two(sketch.version);
-    put_held(alloc, table, "version", &sketch.version, two)?;
+    put_held(alloc, &mut table, "version", &sketch.version, two)?;
     if two {
-        put_held(alloc, table, "step", &sketch.step, two)?;
+        put_held(alloc, &mut table, "step", &sketch.step, two)?;
     }
-    Ok(())
-}
-
-fn put_sketch(alloc: Global, table: &mut Table, sketch: &Sketch) -> Result<(), AllocError>
-    requires { table_view table.old ≡ no_members }
-    ensures { OnOk result (table_view table.new ≡ sketch_members sketch.now) }
-{
-    let two = is_two(sketch.version);
-    put_version(alloc, table, sketch)?;
-    put_held(alloc, table, "process", &sketch.processes, two)?;
-    put_held(alloc, table, "channel", &sketch.channels, two)?;
-    put_held(alloc, table, "budget", &sketch.budget, two)
+    Ok(table)
 }
 
 fn table_of(alloc: Global, sketch: &Sketch) -> Result<Table, AllocError>
     ensures { IfOk result (λ t. table_view t ≡ sketch_members sketch.now) }
 {
-    let mut table = Table::new(alloc);
-    put_sketch(alloc, &mut table, sketch)?;
+    let two = is_two(sketch.version);
+    let mut table = version_table(alloc, sketch)?;
+    put_held(alloc, &mut table, "process", &sketch.processes, two)?;
+    put_held(alloc, &mut table, "channel", &sketch.channels, two)?;
+    put_held(alloc, &mut table, "budget", &sketch.budget, two)?;
     Ok(table)
 }

@@ -1,6 +1,6 @@
 //! The parts of a sketch as TOML values.
 ghost use Rattle.std.specs.Prelude.{◌≡◌, Bool, IfOk, OnOk, map};
-ghost use Rattle.toml.specs.Data.{Data, no_members, string, table as as_table};
+ghost use Rattle.toml.specs.Data.{Data, string};
 ghost use Rattle.toml.specs.View.{view, table_view};
 ghost use Rattle.kpn_builder.specs.Written.{channel_value, last_members, process_value, with_member};
 
@@ -126,57 +126,23 @@ impl ToValue for ProcessSketch {
 
     fn to_value(&self, alloc: Global, two: bool) -> Result<Value, AllocError> {
         let mut table = Table::new(alloc);
-        put_process(alloc, &mut table, self, two)?;
+        put_held(alloc, &mut table, "name", &self.name, two)?;
+        put_held(alloc, &mut table, "kind", &self.kind, two)?;
+        put_held(alloc, &mut table, "args", &self.args, two)?;
         Ok(Value::from(table))
     }
 }
 
-fn put_process(
-    alloc: Global,
-    table: &mut Table,
-    process: &ProcessSketch,
-    two: bool,
-) -> Result<(), AllocError>
-    requires { table_view table.old ≡ no_members }
-    ensures { OnOk result (as_table (table_view table.new) ≡ process_value process.now) }
+/// Returns a table of the last members of a channel, put in key order.
+fn last_members(alloc: Global, channel: &ChannelSketch, two: bool) -> Result<Table, AllocError>
+    ensures { IfOk result (λ t. table_view t ≡ last_members two channel.now) }
 {
-    put_held(alloc, table, "name", &process.name, two)?;
-    put_held(alloc, table, "kind", &process.kind, two)?;
-    put_held(alloc, table, "args", &process.args, two)
-}
-
-/// Puts the last members of a channel, in key order, into a table.
-fn put_last(
-    alloc: Global,
-    table: &mut Table,
-    channel: &ChannelSketch,
-    two: bool,
-) -> Result<(), AllocError>
-    requires { table_view table.old ≡ no_members }
-    ensures { OnOk result (table_view table.new ≡ last_members two channel.now) }
-{
+    let mut table = Table::new(alloc);
     if two {
-        put_held(alloc, table, "tokens", &channel.tokens, two)?;
+        put_held(alloc, &mut table, "tokens", &channel.tokens, two)?;
     }
-    put_held(alloc, table, "to", &channel.to, two)
-}
-
-fn put_channel(
-    alloc: Global,
-    table: &mut Table,
-    channel: &ChannelSketch,
-    two: bool,
-) -> Result<(), AllocError>
-    requires { table_view table.old ≡ no_members }
-    ensures { OnOk result (as_table (table_view table.new) ≡ channel_value two channel.now) }
-{
-    put_last(alloc, table, channel, two)?;
-    put_held(alloc, table, "sort", &channel.sort, two)?;
-    put_held(alloc, table, "out", &channel.out, two)?;
-    put_held(alloc, table, "name", &channel.name, two)?;
-    put_held(alloc, table, "in", &channel.input, two)?;
-    put_held(alloc, table, "from", &channel.from, two)?;
-    put_held(alloc, table, "capacity", &channel.capacity, two)
+    put_held(alloc, &mut table, "to", &channel.to, two)?;
+    Ok(table)
 }
 
 impl ToValue for ChannelSketch {
@@ -185,8 +151,13 @@ impl ToValue for ChannelSketch {
     ghost value = { channel_value };
 
     fn to_value(&self, alloc: Global, two: bool) -> Result<Value, AllocError> {
-        let mut table = Table::new(alloc);
-        put_channel(alloc, &mut table, self, two)?;
+        let mut table = last_members(alloc, self, two)?;
+        put_held(alloc, &mut table, "sort", &self.sort, two)?;
+        put_held(alloc, &mut table, "out", &self.out, two)?;
+        put_held(alloc, &mut table, "name", &self.name, two)?;
+        put_held(alloc, &mut table, "in", &self.input, two)?;
+        put_held(alloc, &mut table, "from", &self.from, two)?;
+        put_held(alloc, &mut table, "capacity", &self.capacity, two)?;
         Ok(Value::from(table))
     }
 }

@@ -1,5 +1,5 @@
 //! The picture of a network.
-ghost use Rattle.std.specs.Prelude.{All, ◌≡◌, ◌++◌, OnOk, IfOk, string_bytes};
+ghost use Rattle.std.specs.Prelude.{All, ◌≡◌, IfOk, string_bytes};
 ghost use Rattle.kpn_picture.specs.Picture.{IsPlain, head, picture, title_text};
 
 use crate::caption::push_caption;

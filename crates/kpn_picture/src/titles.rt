@@ -4,7 +4,6 @@ ghost use Rattle.kpn_formula.specs.Formulas.{kind_name};
 ghost use Rattle.kpn_standard.specs.Signatures.{named, signature};
 ghost use Rattle.kpn_standard.specs.Table.{row_of};
 ghost use Rattle.kpn_signals.specs.Signatures.{number_named, ports};
-ghost use Rattle.kpn_signals.specs.Table.{called_by};
 ghost use Rattle.kpn_picture.specs.Titles.{standard_title, signals_title, formulas_title, both_title, below, name_of};
 
 use kpn_compute::both::{is_first, own_card};

@@ -1,6 +1,0 @@
--- Found without an answer too; with it a wrong body is refused at once.
-use Rattle.std.proofs.Common.{rules}
-use Rattle.kpn_builder.proofs.text.put_sketch.Goals as goal
-
-pub returns : goal.returns
-returns c = search rules
