@@ -308,14 +308,11 @@ inline deal() {
     fi
 }
 
-/* guarded.rt: Guarded::wanted */
-inline guarded_wanted() { share = ready_all + hand; hand_wanted(share); share = 0 }
-
 #define less(a, b) (a > b -> a - b : 0)
 
 /* guarded.rt: Guarded::exchange */
 inline guarded_exchange() {
-    atomic { guarded_wanted(); keep = (most > 0 -> less(wanted, ready_all) : 0); give(); deal(); wanted = 0 }
+    atomic { share = ready_all + hand; hand_wanted(share); share = 0; keep = (most > 0 -> less(wanted, ready_all) : 0); give(); deal(); wanted = 0 }
 }
 
 /* Guarded::ask_in_place: one answer or two are taken, while a process is ready and the run goes on; if none
@@ -337,12 +334,6 @@ inline guarded_ask_in_place() {
 
 /* guarded.rt: Guarded::has_work */
 #define has_work (has_ready || ended)
-
-/* guarded.rt: Guarded::begin_waiting */
-inline begin_waiting() { waiting = waiting + 1 }
-
-/* guarded.rt: Guarded::end_waiting */
-inline end_waiting() { waiting = waiting - 1 }
 
 #define least(a, b) (a < b -> a : b)
 
@@ -371,7 +362,7 @@ inline hand_wanted(all) {
     assert(!MEET || wanted == 1)
 }
 
-/* hand.rt: Hand::see_awake */
+/* hand.rt: Sharer::see_awake */
 inline see_awake() {
     seen = (awake == 0 -> ROUNDS : (awake < 2 -> 2 : awake))
 }
@@ -430,8 +421,8 @@ inline monitor_take() {
                 break
             :: else
             fi;
-            begin_waiting(); wait(CHANGED, state);
-            end_waiting()
+            waiting = waiting + 1; wait(CHANGED, state);
+            waiting = waiting - 1
         od
     }
 }
@@ -543,7 +534,10 @@ inline look_out() {
         look_for_work();
         shows_want();
         if
-        :: is_same -> monitor_lock(); hold_up(); falls(state)
+        :: is_same ->
+            monitor_lock();
+            skip; /* `held_up_at` bears on how the ready processes are shared out, which is left open */
+            falls(state)
         :: true
         fi;
         if :: is_wanted || over -> is_wanted = 0; break :: else fi
@@ -556,9 +550,6 @@ inline look_for_work() {
     is_wanted = has_work;
     falls(state)
 }
-
-/* guarded.rt: Guarded::hold_up */
-inline hold_up() { skip /* it bears on how the ready processes are shared out, which is left open */ }
 
 /* monitor.rt: Monitor::rouse */
 inline rouse() {

@@ -80,8 +80,9 @@ pub(crate) struct Guarded<B: Body, E: EntryLedger, O: Ledger, H: Keeper> {
     overs: Book<O>,
     over_count: u64,
     publisher: CountingPublisher,
-    waiting: usize,
-    held_up_at: u64,
+    pub(crate) waiting: usize,
+    /// How many answers were committed when nothing was for a while, because calls held up their workers.
+    pub(crate) held_up_at: u64,
 }
 
 impl<B: Body, E: EntryLedger, O: Ledger, H: Keeper> Model for Guarded<B, E, O, H> {
@@ -281,7 +282,8 @@ impl<B: Body, E: EntryLedger, O: Ledger, H: Keeper> Guarded<B, E, O, H> {
         ensures over { (e : EndV) → result ≡ Some (Next.Over e) → (seat.new.overs ≡ 1) × (hand.new.tasks ≡ []) × (self.new.machine.end ≡ Some e) }
         ensures ended { (e : EndV) → result ≡ Some (Next.Over e) → HasEnded (family B.Kinds.Kinds) B.Kinds.admits E.net e }
     {
-        let wanted = self.wanted(hand, most);
+        let ready = self.machine.ready().saturating_add(hand.len());
+        let wanted = hand.sharer.wanted(ready, most, self.sharing());
         // Ready processes have waited, so they come before those that could stay.
         let keep = wanted.min(most).saturating_sub(self.machine.ready());
         if self.give(board, hand, seat, keep) {
@@ -318,14 +320,6 @@ impl<B: Body, E: EntryLedger, O: Ledger, H: Keeper> Guarded<B, E, O, H> {
         let more = (self.machine.entries() - before) as u64;
         seat.add_entries(&mut self.entries, more);
         Went::On { answers, waited }
-    }
-
-    fn wanted(&self, hand: &Hand<B>, most: usize) -> usize
-        ensures some { (1 ≤ result) × (result ≤ 64) }
-        ensures most { 1 ≤ most → result ≤ most }
-    {
-        let share = self.machine.ready().saturating_add(hand.len());
-        hand.wanted(share, most, self.sharing())
     }
 
     fn deal_more(&mut self, hand: &mut Hand<B>, wanted: usize)
@@ -369,13 +363,6 @@ impl<B: Body, E: EntryLedger, O: Ledger, H: Keeper> Guarded<B, E, O, H> {
         self.machine.commits()
     }
 
-    /// Notes that nothing was committed for a while: calls hold up their workers.
-    pub(crate) fn hold_up(&mut self)
-        ensures { self.new ≡ self.old }
-    {
-        self.held_up_at = self.machine.commits();
-    }
-
     // One by one until there are as many answers as processes, so that each was taken once; then, during a
     // trial, among all workers; then among those awake.
     fn sharing(&self) -> Sharing {
@@ -389,18 +376,6 @@ impl<B: Body, E: EntryLedger, O: Ledger, H: Keeper> Guarded<B, E, O, H> {
         } else {
             Sharing::AmongAwake
         }
-    }
-
-    pub(crate) fn begin_waiting(&mut self)
-        ensures { self.new ≡ self.old }
-    {
-        self.waiting = self.waiting.saturating_add(1);
-    }
-
-    pub(crate) fn end_waiting(&mut self)
-        ensures { self.new ≡ self.old }
-    {
-        self.waiting = self.waiting.saturating_sub(1);
     }
 
     /// All if the run has ended, else at most one per ready process. No contract covers waking.

@@ -30,6 +30,12 @@ pub(crate) enum Sharing {
 #[derive(Drop)]
 pub struct Hand<B: Body> {
     places: Places<B>,
+    pub(crate) sharer: Sharer,
+}
+
+/// How a worker shares the ready processes with others. No contract mentions it.
+#[derive(Clone, Copy)]
+pub(crate) struct Sharer {
     sharers: usize,
     awake: usize,
     processors: usize,
@@ -55,10 +61,12 @@ impl<B: Body> Hand<B> {
     {
         Ok(Hand {
             places: Places::new(alloc)?,
-            sharers: sharers.max(1),
-            awake: sharers.max(1),
-            processors: sharers.max(1),
-            wanted_rest: false,
+            sharer: Sharer {
+                sharers: sharers.max(1),
+                awake: sharers.max(1),
+                processors: sharers.max(1),
+                wanted_rest: false,
+            },
         })
     }
 
@@ -67,7 +75,7 @@ impl<B: Body> Hand<B> {
     pub fn know_processors(&mut self, processors: usize)
         ensures { self.new ≡ self.old }
     {
-        self.processors = processors.max(1);
+        self.sharer.processors = processors.max(1);
     }
 
     /// Calls the first task not called yet, and returns the number of its process; `None` exactly if all were
@@ -85,7 +93,7 @@ impl<B: Body> Hand<B> {
     pub fn outcomes(&self) -> &[Outcome]
         ensures { result.now ≡ self.now.outcomes }
     {
-        self.places.outcomes()
+        self.places.outcomes.as_slice()
     }
 
     /// Returns the number of tasks.
@@ -93,7 +101,7 @@ impl<B: Body> Hand<B> {
         ensures len { result ≡ length self.now.tasks }
         ensures few { result ≤ 64 }
     {
-        self.places.len()
+        self.places.places.len()
     }
 
     /// Commits the answers, one after the other. At most `keep` processes that can continue go out again at
@@ -141,16 +149,16 @@ impl<B: Body> Hand<B> {
     {
         self.places.put(task);
     }
+}
 
+impl Sharer {
     /// Whether fewer workers are awake than threads can run at once.
     pub(crate) fn has_processor(&self, awake: u64) -> bool {
         awake < self.processors as u64
     }
 
     /// Notes how many workers are awake, limited to 2 to `sharers`; 0 means all.
-    pub(crate) fn see_awake(&mut self, awake: u64)
-        ensures { self.new ≡ self.old }
-    {
+    pub(crate) fn see_awake(&mut self, awake: u64) {
         self.awake = match usize::try_from(awake) {
             Ok(0) | Err(_) => self.sharers,
             Ok(some) => some.max(2).min(self.sharers),
@@ -171,9 +179,7 @@ impl<B: Body> Hand<B> {
     }
 
     /// Whether the worker wants to rest for the first time.
-    pub(crate) fn wants_rest_anew(&mut self) -> bool
-        ensures { self.new ≡ self.old }
-    {
+    pub(crate) fn wants_rest_anew(&mut self) -> bool {
         let anew = !self.wanted_rest;
         self.wanted_rest = true;
         anew

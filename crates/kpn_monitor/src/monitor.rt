@@ -117,9 +117,9 @@ impl<B: Body, E: EntryLedger, O: Ledger, H: Keeper> Monitor<B, E, O, H> {
                 }
                 return taken;
             }
-            guarded.begin_waiting();
+            guarded.waiting = guarded.waiting.saturating_add(1);
             guarded = self.changed.wait(rt, guarded);
-            guarded.end_waiting();
+            guarded.waiting = guarded.waiting.saturating_sub(1);
         }
         unreachable!()
     }
@@ -177,7 +177,7 @@ impl<B: Body, E: EntryLedger, O: Ledger, H: Keeper> Monitor<B, E, O, H> {
         ensures over { (e : EndV) → result ≡ Ok (Next.Over e) → (seat.new.overs ≡ 1) × (hand.new.tasks ≡ []) }
         ensures ended { (e : EndV) → result ≡ Ok (Next.Over e) → HasEnded (family B.Kinds.Kinds) B.Kinds.admits E.net e }
     {
-        hand.see_awake(self.awake.load(Ordering::SeqCst));
+        hand.sharer.see_awake(self.awake.load(Ordering::SeqCst));
         let mut guarded = self.lock(rt);
         let next = guarded.exchange(&self.board, hand, seat, most);
         let wakes = guarded.wakes();
@@ -247,7 +247,7 @@ impl<B: Body, E: EntryLedger, O: Ledger, H: Keeper> Monitor<B, E, O, H> {
         if why == Rest::Idle && self.lock(rt).has_work() {
             return false;
         }
-        let is_new = hand.wants_rest_anew();
+        let is_new = hand.sharer.wants_rest_anew();
         let rests = resters.begin(is_new, why);
         self.awake.store(resters.awake(), Ordering::SeqCst);
         if !rests {
@@ -283,11 +283,12 @@ impl<B: Body, E: EntryLedger, O: Ledger, H: Keeper> Monitor<B, E, O, H> {
         for _ in rt.forever() {
             resters = self.roused.wait_timeout(rt, resters, limit).0;
             let next = self.look_for_work(rt);
-            let has_processor = hand.has_processor(resters.awake());
+            let has_processor = hand.sharer.has_processor(resters.awake());
             let is_wanted = next.shows_want(&last, has_processor);
             limit = next_limit(limit, has_processor && next.is_slow(&last));
             if next.is_same(&last) {
-                self.lock(rt).hold_up();
+                let mut guarded = self.lock(rt);
+                guarded.held_up_at = guarded.answers();
             } else {
                 last = next;
             }

@@ -22,11 +22,11 @@ pub(crate) const MOST_TASKS: usize = 64;
 /// earlier one is free.
 #[derive(Drop)]
 pub(crate) struct Places<B: Body> {
-    places: Vec<Option<Task<B>>>,
+    pub(crate) places: Vec<Option<Task<B>>>,
     answers: Vec<Answer>,
     given: usize,
     kept: usize,
-    outcomes: Vec<Outcome>,
+    pub(crate) outcomes: Vec<Outcome>,
 }
 
 impl<B: Body> Model for Places<B> {
@@ -56,16 +56,6 @@ impl<B: Body> Places<B> {
         })
     }
 
-    /// Returns how many tasks have answers not given yet.
-    #[inline(always)]
-    pub(crate) fn len(&self) -> usize
-        ensures len { result ≡ length self.now.tasks }
-        ensures few { result ≤ 64 }
-        ensures within { self.now.called ≤ result }
-    {
-        self.places.len() - self.given
-    }
-
     /// Calls the first task not called yet, and returns the number of its process.
     #[inline(always)]
     pub(crate) fn call(&mut self) -> Option<usize>
@@ -83,12 +73,6 @@ impl<B: Body> Places<B> {
         let process = task.process();
         self.answers.push_reserved(task.ask());
         Some(process)
-    }
-
-    pub(crate) fn outcomes(&self) -> &[Outcome]
-        ensures { result.now ≡ self.now.outcomes }
-    {
-        self.outcomes.as_slice()
     }
 
     pub(crate) fn forget(&mut self)

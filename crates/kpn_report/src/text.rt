@@ -17,6 +17,7 @@ use crate::tally::{Tally, tally_of};
 use kpn_model::{End, Entry, Kinds, Place};
 use kpn_network::Net;
 use std::alloc::{AllocError, Global};
+use std::fmt::Write;
 
 /// Appends the line of each channel from its counts.
 fn push_channels<K: Kinds>(

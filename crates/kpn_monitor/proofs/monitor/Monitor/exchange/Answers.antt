@@ -2,4 +2,4 @@
 use Rattle.kpn_monitor.proofs.monitor.Monitor.exchange.Goals as goal
 
 pub returns-in-None-clause-stranger : goal.returns-in-None-clause-stranger
-returns-in-None-clause-stranger g c = rw c.leave.ensures.rest.1 (rw c.leave.ensures.first at (rw c.see_awake.ensures at c.in-None.ensures.refused.1))
+returns-in-None-clause-stranger g c = rw (← c.hand.view_is, c.leave.ensures.rest.1) (rw c.leave.ensures.first at c.in-None.ensures.refused.1)

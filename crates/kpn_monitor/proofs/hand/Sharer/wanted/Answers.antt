@@ -1,6 +1,6 @@
 -- Found without an answer too; with it a wrong body is refused at once.
 use Rattle.std.proofs.Common.{rules}
-use Rattle.kpn_monitor.proofs.hand.Hand.wanted.Goals as goal
+use Rattle.kpn_monitor.proofs.hand.Sharer.wanted.Goals as goal
 
 pub returns-clause-most : goal.returns-clause-most
 returns-clause-most g c = search rules

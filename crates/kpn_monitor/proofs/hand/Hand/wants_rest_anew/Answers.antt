@@ -1,6 +1,0 @@
--- Found without an answer too; with it a wrong body is refused at once.
-use Rattle.std.proofs.Common.{rules}
-use Rattle.kpn_monitor.proofs.hand.Hand.wants_rest_anew.Goals as goal
-
-pub returns : goal.returns
-returns g c = search rules
