@@ -89,13 +89,8 @@ fn push_due<K: Kinds>(
     if !is_due::<K>(sketch, fault) {
         return;
     }
-    push_place::<K>(
-        alloc,
-        messages,
-        sketch,
-        (fault, Location::Description),
-        kinds,
-    );
+    let place = Location::Description;
+    push_place::<K>(alloc, messages, sketch, FaultAt { fault, place }, kinds);
     push_processes::<K>(alloc, messages, sketch, fault, kinds);
     push_channels::<K>(alloc, messages, sketch, fault, kinds);
 }
@@ -147,13 +142,8 @@ fn push_processes<K: Kinds>(
     ensures { Adds (for_each_below (λ p. told_of K.named K.signature sketch.now fault (Location.Process p)) (length sketch.now.processes)) messages.old messages.new }
 {
     for p in 0..sketch.processes.as_slice().len() {
-        push_place::<K>(
-            alloc,
-            messages,
-            sketch,
-            (fault, Location::Process(p)),
-            kinds,
-        );
+        let place = Location::Process(p);
+        push_place::<K>(alloc, messages, sketch, FaultAt { fault, place }, kinds);
     }
 }
 
@@ -167,14 +157,16 @@ fn push_channels<K: Kinds>(
     ensures { Adds (for_each_below (λ c. told_of K.named K.signature sketch.now fault (Location.Channel c)) (length sketch.now.channels)) messages.old messages.new }
 {
     for c in 0..sketch.channels.as_slice().len() {
-        push_place::<K>(
-            alloc,
-            messages,
-            sketch,
-            (fault, Location::Channel(c)),
-            kinds,
-        );
+        let place = Location::Channel(c);
+        push_place::<K>(alloc, messages, sketch, FaultAt { fault, place }, kinds);
     }
+}
+
+/// A fault, and the place that may have it.
+#[derive(Clone, Copy)]
+struct FaultAt {
+    fault: NetFault,
+    place: Location,
 }
 
 /// Adds the message of a fault at a place, if the place has it.
@@ -182,12 +174,12 @@ fn push_place<K: Kinds>(
     alloc: Global,
     messages: &mut Messages,
     sketch: &Sketch,
-    at: (NetFault, Location),
+    at: FaultAt,
     kinds: &str,
 )
-    ensures { Adds (told_of K.named K.signature sketch.now at.0 at.1) messages.old messages.new }
+    ensures { Adds (told_of K.named K.signature sketch.now at.fault at.place) messages.old messages.new }
 {
-    if !is_of::<K>(sketch, at.0, at.1) {
+    if !is_of::<K>(sketch, at.fault, at.place) {
         return;
     }
     push_message::<K>(alloc, messages, sketch, at, kinds);
@@ -198,12 +190,12 @@ fn push_message<K: Kinds>(
     alloc: Global,
     messages: &mut Messages,
     sketch: &Sketch,
-    at: (NetFault, Location),
+    at: FaultAt,
     kinds: &str,
 )
-    ensures { Adds ((at.0, at.1) ∷ []) messages.old messages.new }
+    ensures { Adds ((at.fault, at.place) ∷ []) messages.old messages.new }
 {
-    let (fault, place) = at;
+    let FaultAt { fault, place } = at;
     if is_full(messages) {
         messages.more = messages.more.saturating_add(1);
         return;
