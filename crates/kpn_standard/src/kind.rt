@@ -44,23 +44,21 @@ pub struct Row {
     pub outs: [Option<Sort>; 3],
 }
 
-type Ports = [Option<Sort>; 3];
-
 const WORDS: Option<Sort> = Some(Sort::Words);
 
 const FLAGS: Option<Sort> = Some(Sort::Flags);
 
-const NO_PORT: Ports = [None, None, None];
+const NO_PORT: [Option<Sort>; 3] = [None, None, None];
 
-const ONE_WORD: Ports = [WORDS, None, None];
+const ONE_WORD: [Option<Sort>; 3] = [WORDS, None, None];
 
-const TWO_WORDS: Ports = [WORDS, WORDS, None];
+const TWO_WORDS: [Option<Sort>; 3] = [WORDS, WORDS, None];
 
-const ONE_FLAG: Ports = [FLAGS, None, None];
+const ONE_FLAG: [Option<Sort>; 3] = [FLAGS, None, None];
 
-const WORD_AND_FLAG: Ports = [WORDS, FLAGS, None];
+const WORD_AND_FLAG: [Option<Sort>; 3] = [WORDS, FLAGS, None];
 
-const TWO_WORDS_AND_FLAG: Ports = [WORDS, WORDS, FLAGS];
+const TWO_WORDS_AND_FLAG: [Option<Sort>; 3] = [WORDS, WORDS, FLAGS];
 
 impl Kind {
     /// Returns the kind's row of the table.
@@ -72,26 +70,51 @@ impl Kind {
         ensures outs { result.outs ≡ (row_of self).outs }
         ensures means { named result.name.now ≡ Some (result.number, result.arguments) }
     {
-        let row = |number, name, arguments, ins, outs| Row {
+        let (number, name, arguments) = self.heading();
+        let (ins, outs) = self.ports();
+        Row {
             number,
             name,
             arguments,
             ins,
             outs,
-        };
+        }
+    }
+
+    fn heading(self) -> (u16, &'static str, usize)
+        ensures number { result.0 ≡ (row_of self).number }
+        ensures name { result.1.now ≡ (row_of self).name }
+        ensures arguments { result.2 ≡ (row_of self).arguments }
+    {
         match self {
-            Kind::Count => row(0, "count", 2, NO_PORT, ONE_WORD),
-            Kind::Sink => row(1, "sink", 1, ONE_WORD, NO_PORT),
-            Kind::Take => row(2, "take", 1, ONE_WORD, ONE_WORD),
-            Kind::Copy => row(3, "copy", 0, ONE_WORD, TWO_WORDS),
-            Kind::Prefix => row(4, "prefix", 1, ONE_WORD, ONE_WORD),
-            Kind::Add => row(5, "add", 0, TWO_WORDS, ONE_WORD),
-            Kind::Scale => row(6, "scale", 1, ONE_WORD, ONE_WORD),
-            Kind::Weave => row(7, "weave", 2, TWO_WORDS, ONE_WORD),
-            Kind::Merge => row(8, "merge", 0, TWO_WORDS, ONE_WORD),
-            Kind::Divides => row(9, "divides", 1, ONE_WORD, ONE_FLAG),
-            Kind::Switch => row(10, "switch", 0, WORD_AND_FLAG, TWO_WORDS),
-            Kind::Select => row(11, "select", 0, TWO_WORDS_AND_FLAG, ONE_WORD),
+            Kind::Count => (0, "count", 2),
+            Kind::Sink => (1, "sink", 1),
+            Kind::Take => (2, "take", 1),
+            Kind::Copy => (3, "copy", 0),
+            Kind::Prefix => (4, "prefix", 1),
+            Kind::Add => (5, "add", 0),
+            Kind::Scale => (6, "scale", 1),
+            Kind::Weave => (7, "weave", 2),
+            Kind::Merge => (8, "merge", 0),
+            Kind::Divides => (9, "divides", 1),
+            Kind::Switch => (10, "switch", 0),
+            Kind::Select => (11, "select", 0),
+        }
+    }
+
+    fn ports(self) -> ([Option<Sort>; 3], [Option<Sort>; 3])
+        ensures ins { result.0 ≡ (row_of self).ins }
+        ensures outs { result.1 ≡ (row_of self).outs }
+    {
+        match self {
+            Kind::Count => (NO_PORT, ONE_WORD),
+            Kind::Sink => (ONE_WORD, NO_PORT),
+            Kind::Take | Kind::Prefix | Kind::Scale => (ONE_WORD, ONE_WORD),
+            Kind::Copy => (ONE_WORD, TWO_WORDS),
+            Kind::Add | Kind::Weave | Kind::Merge => (TWO_WORDS, ONE_WORD),
+            Kind::Divides => (ONE_WORD, ONE_FLAG),
+            Kind::Switch => (WORD_AND_FLAG, TWO_WORDS),
+            Kind::Select => (TWO_WORDS_AND_FLAG, ONE_WORD),
         }
     }
 
