@@ -1,8 +1,8 @@
 //! Runs the programs of cards.
-ghost use Rattle.std.specs.Prelude.{true, ◌≡◌, ◌<◌, ◌≤◌, ◌+◌, ◌-◌, ◌*◌, ◌/◌, ◌^◌, ◌==◌, ℕ, length, take, set, min, not};
+ghost use Rattle.std.specs.Prelude.{true, ◌≡◌, ◌<◌, ◌≤◌, ◌+◌, ◌-◌, ◌*◌, ◌/◌, ◌^◌, ◌==◌, set, min, not};
 ghost use Rattle.kpn_standard.specs.Locals.{at};
-ghost use Rattle.kpn_formula.specs.Programs.{executed, chosen, values_after};
-ghost use Rattle.kpn_formula.specs.Cards.{after_end, before_end, instruction};
+ghost use Rattle.kpn_formula.specs.Programs.{executed, chosen};
+ghost use Rattle.kpn_formula.specs.Cards.{after_end, instruction};
 ghost use Rattle.kpn_formula.specs.Reading.{IsReadable, first_three, program_at};
 ghost use Rattle.kpn_formula.specs.Running.{HasRoom, IsSame, PushesOne, RunsFrom, passed, working};
 

@@ -1,5 +1,5 @@
 //! The kinds that compute words: each function returns its kind's answer.
-ghost use Rattle.std.specs.Prelude.{◌≡◌, ◌<◌, ◌≤◌, ◌^◌, ◌≢◌, pos, unsigned_abs};
+ghost use Rattle.std.specs.Prelude.{◌≡◌, ◌<◌, ◌^◌};
 ghost use Rattle.kpn_signals.specs.Shapes.{step_answer, join_answer};
 ghost use Rattle.kpn_signals.specs.Words.{signed};
 ghost use Rattle.kpn_signals.specs.Arithmetic.{sub_join, mul_join, scale_step, shift_step, left_step, min_join, max_join, abs_step, offset_step, gain_step, div_join, mod_join};

@@ -2,7 +2,7 @@
 ghost use Rattle.std.specs.Prelude.{◌≡◌, ◌<◌, ◌≤◌, ◌≤ℤ◌, length};
 ghost use Rattle.kpn_signals.specs.Words.{signed};
 ghost use Rattle.kpn_signals.specs.Shapes.{step_answer, join_answer};
-ghost use Rattle.kpn_signals.specs.Filters.{hold_join, delay_step, low_pass_step, clip_step, sum_step, difference_step, signed_sum, mean, average_step, counter_step};
+ghost use Rattle.kpn_signals.specs.Filters.{hold_join, delay_step, low_pass_step, clip_step, sum_step, difference_step, mean, average_step, counter_step};
 
 use crate::turns::{flag, joined, latest, number, reads, word, writes_word};
 use crate::wide::{floor_div, signed, wrapped};

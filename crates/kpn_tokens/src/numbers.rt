@@ -1,10 +1,10 @@
 //! Words and flags as text.
-ghost use Rattle.std.specs.Prelude.{◌≡◌, ◌==◌, ◌+◌, ◌*◌, ◌^◌, ◌/◌, ◌<◌, ◌≤◌, ◌++◌, ◌||◌, [], ◌∷◌, nat_lt, SomeIff, OnOk, codes, decimal, length, true, false, Ok};
+ghost use Rattle.std.specs.Prelude.{◌≡◌, ◌==◌, ◌+◌, ◌*◌, ◌^◌, ◌/◌, ◌<◌, ◌++◌, ◌||◌, [], ◌∷◌, SomeIff, OnOk, codes, decimal, length, true, false, Ok};
 ghost use Rattle.std.specs.Char.{digit_value};
 ghost use Rattle.std.specs.List.{after_first, before_first, list_all, list_any, position};
 ghost use Rattle.std.specs.Str.Parse.{digits_value, digits_value_after};
 ghost use Rattle.kpn_tokens.specs.Records.{IsSaidOf};
-ghost use Rattle.kpn_tokens.specs.Numbers.{are_digits, digits_said, flag_said, is_digit, is_hexadecimal, is_point, is_underscore, last_digits, number_said, token_said, token_text, units_text, word_of, word_said, word_text};
+ghost use Rattle.kpn_tokens.specs.Numbers.{digits_said, flag_said, is_digit, is_point, is_underscore, last_digits, number_said, token_said, token_text, units_text, word_of, word_said, word_text};
 
 use crate::layouts::{Decimals, RecordFault};
 use itoa::{Buffer, write_digits};

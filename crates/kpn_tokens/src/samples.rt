@@ -1,7 +1,7 @@
 //! Words and flags as samples.
 ghost use Rattle.std.specs.Prelude.{◌≡◌, ◌<◌, ◌≤◌, ◌++◌, OnOk, length, true};
 ghost use Rattle.kpn_tokens.specs.Records.{IsSaidOf};
-ghost use Rattle.kpn_tokens.specs.Samples.{bytes_in, bytes_of, frame_said, half_of, is_fit, nearest, number_for, number_in, numbers_of, word_for, word_from, word_sample};
+ghost use Rattle.kpn_tokens.specs.Samples.{bytes_in, frame_said, half_of, is_fit, nearest, number_for, number_in, numbers_of, word_for, word_from, word_sample};
 
 use crate::layouts::{Coding, Endian, Frame, RecordFault, Sample, Width};
 use byteorder::{BigEndian, ByteOrder, LittleEndian};
