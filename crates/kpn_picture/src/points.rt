@@ -20,8 +20,7 @@ pub(crate) fn is_point<K: Titled>(net: &Net<K>, p: usize) -> bool
     ensures { result ≡ is_point net.now K.title p }
 {
     let title = K::title(&card(net, p));
-    let names_channel =
-        names_one(net, p, net.in_of(p, 0)) || names_one(net, p, net.out_of(p, 0));
+    let names_channel = names_one(net, p, net.in_of(p, 0)) || names_one(net, p, net.out_of(p, 0));
     is_copy(title.word, title.number) && names_channel
 }
 
