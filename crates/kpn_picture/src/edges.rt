@@ -180,11 +180,9 @@ fn push_edge<K: Titled>(
 {
     let ends = net.ends(c);
     let form = form_of(net, has_rows, c);
-    push_arrow(
-        out,
-        process_name(net, ends.writer),
-        process_name(net, ends.reader),
-    )?;
+    let writer = process_name(net, ends.writer);
+    let reader = process_name(net, ends.reader);
+    push_arrow(out, writer, reader)?;
     push_label(out, net, left, form.has_label, c)?;
     out.push_str("\"")?;
     push_attributes(out, net, left, form, c)?;
