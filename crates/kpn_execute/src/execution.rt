@@ -57,12 +57,15 @@ pub fn execute<B: Body, S: Sink, R: Wait + Clock + Threads + Sync>(
 {
     match channel_to_show(&net, show) {
         Ok(channel) => {
+            if workers == 1 {
+                return tell_alone(alloc, net, bodies, channel, sink);
+            }
             let request = RunRequest {
                 net,
                 bodies,
                 workers,
             };
-            tell(rt, alloc, request, channel, sink)
+            tell_by_workers(rt, alloc, request, channel, sink)
         }
         Err(name) => say_no_channel(name, sink),
     }
@@ -85,25 +88,7 @@ fn channel_to_show<'a, K: Kinds>(
     }
 }
 
-fn tell<B: Body, S: Sink, R: Wait + Clock + Threads + Sync>(
-    rt: &R,
-    alloc: Global,
-    request: RunRequest<B>,
-    channel: Option<usize>,
-    sink: &mut S,
-) -> u8
-    requires cards { map B.card request.bodies.items ≡ cards_of request.net.processes }
-    requires workers { (1 ≤ request.workers) × (request.workers ≤ 16) }
-    ensures { Writes (TellsShown (family B.Kinds.Kinds) request.net request.workers channel) (S.seen sink.old) (S.seen sink.new) result }
-{
-    if request.workers == 1 {
-        tell_alone(alloc, request.net, request.bodies, channel, sink)
-    } else {
-        tell_by_workers(rt, alloc, request, channel, sink)
-    }
-}
-
-/// `tell` calls it with bodies that fit, so opening a machine fails only if out of memory.
+/// `execute` calls it with bodies that fit, so opening a machine fails only if out of memory.
 #[inline(never)]
 fn tell_alone<B: Body, S: Sink>(
     alloc: Global,

@@ -58,33 +58,15 @@ pub fn serve<'a, I: Source, O: Sink, R: Wait + Clock + Threads + Sync>(
     ensures taken { ConsumesAtMost (longest + 1) (I.remaining source.old) (I.remaining source.new) }
 {
     let choice = read_words(alloc, arguments)?;
-    Ok(serve_choice(rt, alloc, choice, source, sink))
-}
-
-fn serve_choice<I: Source, O: Sink, R: Wait + Clock + Threads + Sync>(
-    rt: &R,
-    alloc: Global,
-    choice: Choice<'_>,
-    source: &mut I,
-    sink: &mut O,
-) -> Served
-    requires workers { HasFewWorkers choice }
-    ensures accepted { result.fault ≡ None → result.message ≡ None }
-    ensures memory { result.fault ≡ Some NetFault.Memory → result.message ≡ None }
-    ensures input { result.fault ≡ Some NetFault.Input → result.message ≡ None }
-    ensures said { IfSome result.message (λ message. string_bytes message ≢ []) }
-    ensures served { Serves choice.entry (I.remaining source.old) (I.has_failed source.old) (I.has_failed source.new) (O.seen sink.old) (O.seen sink.new) result.status result.fault }
-    ensures taken { ConsumesAtMost (longest + 1) (I.remaining source.old) (I.remaining source.new) }
-{
     let net: Net<Standard> = match load_or_refuse(alloc, source) {
         Ok(net) => net,
-        Err(refused) => return serve_refused(alloc, &refused, sink),
+        Err(refused) => return Ok(serve_refused(alloc, &refused, sink)),
     };
-    Served {
+    Ok(Served {
         status: serve_net(rt, alloc, choice, net, sink),
         fault: None,
         message: None,
-    }
+    })
 }
 
 fn serve_refused<O: Sink>(alloc: Global, refused: &Refused, sink: &mut O) -> Served
