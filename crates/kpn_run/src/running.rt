@@ -149,14 +149,29 @@ pub fn run_with_keeper<B: Body, H: Keeper + Send, R: Wait + Clock + Threads + Sy
     if !may_work(workers) {
         return Err(RunFault::Workers { net, bodies });
     }
-    let request = RunRequest {
-        net,
-        bodies,
-        workers,
-    };
-    match run_boxed(rt, alloc, request, gate) {
-        Ok(finish) => Ok(finish),
-        Err(failure) => Err(fault_of(failure)),
+    match box_all(alloc, bodies) {
+        Ok(Boxes { boxed, spare }) => {
+            let request = RunRequest {
+                net,
+                bodies: boxed,
+                workers,
+            };
+            match run_bodies(rt, alloc, request, gate) {
+                Ok(finish) => Ok(finish),
+                Err(failure) => Err(fault_of(unboxed(failure, spare))),
+            }
+        }
+        Err(bodies) => {
+            let request = RunRequest {
+                net,
+                bodies,
+                workers,
+            };
+            match run_bodies(rt, alloc, request, gate) {
+                Ok(finish) => Ok(finish),
+                Err(failure) => Err(fault_of(failure)),
+            }
+        }
     }
 }
 
@@ -172,46 +187,6 @@ fn fault_of<B: Body>(failure: Failure<B>) -> RunFault<B>
             OpenFault::Memory => RunFault::Memory { net, bodies },
             OpenFault::Bodies | OpenFault::Card => RunFault::Open { net, bodies, fault },
         },
-    }
-}
-
-/// Boxes each body so that moving it is quick; leaves the bodies as they are if there is no memory for boxes.
-fn run_boxed<B: Body, H: Keeper + Send, R: Wait + Clock + Threads + Sync, G: Gate>(
-    rt: &R,
-    alloc: Global,
-    request: RunRequest<B>,
-    gate: &G,
-) -> Result<Finish<B::Kinds, H>, Failure<B>>
-    requires { (0 < request.workers) × (request.workers ≤ 16) }
-    ensures run { IfOk result (IsFinishedRun (family B.Kinds.Kinds) request.net) }
-    ensures cards { OnOk result (map B.card request.bodies.items ≡ cards_of request.net.processes) }
-    ensures failed { IfErr result (HandsBack B.card request.net request.bodies.items) }
-{
-    let RunRequest {
-        net,
-        bodies,
-        workers,
-    } = request;
-    match box_all(alloc, bodies) {
-        Ok(Boxes { boxed, spare }) => {
-            let request = RunRequest {
-                net,
-                bodies: boxed,
-                workers,
-            };
-            match run_bodies(rt, alloc, request, gate) {
-                Ok(finish) => Ok(finish),
-                Err(failure) => Err(unboxed(failure, spare)),
-            }
-        }
-        Err(bodies) => {
-            let request = RunRequest {
-                net,
-                bodies,
-                workers,
-            };
-            run_bodies(rt, alloc, request, gate)
-        }
     }
 }
 
@@ -250,30 +225,13 @@ fn run_bodies<B: Body, H: Keeper + Send, R: Wait + Clock + Threads + Sync, G: Ga
         bodies,
         workers,
     } = request;
-    match opening_of::<B, H>(alloc, net, bodies) {
-        Ok(opening) => run_opened(rt, alloc, opening, workers, gate),
-        Err(refused) => Err(not_run(refused)),
-    }
-}
-
-fn run_opened<B: Body, H: Keeper + Send, R: Wait + Clock + Threads + Sync, G: Gate>(
-    rt: &R,
-    alloc: Global,
-    opening: Opening<B, H>,
-    workers: usize,
-    gate: &G,
-) -> Result<Finish<B::Kinds, H>, Failure<B>>
-    requires workers { (0 < workers) × (workers ≤ 16) }
-    ensures run { IfOk result (IsFinishedRun (family B.Kinds.Kinds) opening.machine.network) }
-    ensures failed { IfErr result (FailsOpened B.card opening.machine.network) }
-{
-    match run_named::<B, H, Brand, Brand, R, G>(rt, alloc, opening, workers, gate) {
-        Ok(finish) => {
-            told_by_laws(&finish);
-            Ok(finish)
-        }
-        Err(failure) => Err(failure),
-    }
+    let opening = match opening_of::<B, H>(alloc, net, bodies) {
+        Ok(opening) => opening,
+        Err(refused) => return Err(not_run(refused)),
+    };
+    let finish = run_named::<B, H, Brand, Brand, R, G>(rt, alloc, opening, workers, gate)?;
+    told_by_laws(&finish);
+    Ok(finish)
 }
 
 /// Ghost lemma: the laws hold of a run that has ended.

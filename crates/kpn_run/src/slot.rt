@@ -124,32 +124,17 @@ pub(crate) fn seat_all<B: Body, E: EntryLedger, O: Ledger>(
     hands: Hands<B>,
     slots: &mut Vec<WorkerSlot<B, E, O>>,
 )
-    requires workers { (0 < workers) × (workers ≤ 16) }
+    requires workers { 0 < workers }
     requires room { (slots.old.items ≡ []) × (workers ≤ vec_capacity slots.old) }
     ensures parts { sum_by (λ (b : AtSlot). b.seat.parts) slots.new.items ≡ seat.parts }
     ensures some { (0 < length slots.new.items) × (length slots.new.items ≤ workers) }
 {
     let mut seat = seat;
     let Hands { last, mut others } = hands;
-    seat_others(&mut seat, workers, &mut others, slots);
-    slots.push_reserved(WorkerSlot::new(seat, last));
-}
-
-fn seat_others<B: Body, E: EntryLedger, O: Ledger>(
-    seat: &mut Seat<E, O>,
-    workers: usize,
-    hands: &mut Vec<Hand<B>>,
-    slots: &mut Vec<WorkerSlot<B, E, O>>,
-)
-    requires workers { 0 < workers }
-    requires room { (slots.old.items ≡ []) × (workers ≤ vec_capacity slots.old) }
-    ensures parts { sum_by (λ (b : AtSlot). b.seat.parts) slots.new.items + seat.new.parts ≡ seat.old.parts }
-    ensures few { length slots.new.items < workers }
-    ensures room { workers ≤ vec_capacity slots.new }
-{
     for _i in 1..workers {
-        seat_one(seat, hands.pop(), slots);
+        seat_one(&mut seat, others.pop(), slots);
     }
+    slots.push_reserved(WorkerSlot::new(seat, last));
 }
 
 // Adds a slot, unless there is no hand or the seat has only one part left.
