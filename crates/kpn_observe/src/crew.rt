@@ -11,7 +11,7 @@ ghost use Rattle.kpn_laws.specs.StreamsOfRun.{ApproachLeastSolution};
 ghost use Rattle.kpn_monitor.specs.Views.{AreNamesOf, Shares};
 ghost use Rattle.kpn_monitor.specs.Kept.{HasEnded, IsClosed, WasCommitted, WasTaken};
 ghost use Rattle.kpn_run.specs.Runs.{IsComparable, StaysWithinCapacities};
-ghost use Rattle.kpn_observe.specs.WatchedReports.{EndSparesBudget, IsWatchedRun, LacksMemory};
+ghost use Rattle.kpn_observe.specs.WatchedReports.{EndSparesBudget, LacksMemory};
 
 use crate::running::told_by_laws;
 use crate::watched::WatchedRun;
@@ -201,19 +201,6 @@ pub fn run_by_crew<B: Body, R: Threads + Sync, C: Crew<B>>(
     ensures fault { IfErr result (λ refused. IsOpenFault net.processes (map B.card bodies.items) refused.fault) }
 {
     let opening = opening_of::<B, Wide>(alloc, net, bodies)?;
-    run_opened(rt, alloc, opening, seats, crew)
-}
-
-fn run_opened<B: Body, R: Threads + Sync, C: Crew<B>>(
-    rt: &R,
-    alloc: Global,
-    opening: Opening<B>,
-    seats: u16,
-    crew: &C,
-) -> Result<WatchedRun<B::Kinds>, OpenRefused<B>>
-    ensures run { IfOk result (IsWatchedRun (family B.Kinds.Kinds) B.Kinds.admits opening.machine.network) }
-    ensures refused { IfErr result (λ refused. LacksMemory B.card opening.machine.network refused.net refused.bodies.items refused.fault) }
-{
     let ran = run_named::<B, Brand, Brand, R, C>(rt, alloc, opening, seats, crew)?;
     told_by_laws(&ran);
     Ok(ran)

@@ -325,37 +325,17 @@ fn work_watched<
                 watcher,
                 period: watch.period,
             };
-            work_beside(rt, monitor, &orders, observation, workforce)
+            let (_, workforce) = join(
+                rt,
+                || -> ()
+                    requires { observation.watcher.board ≡ E.board }
+                { observe(rt, monitor, observation, &bell) },
+                || work_and_ring(rt, monitor, &orders, workforce),
+            );
+            workforce
         }
         Err(_) => work_and_ring(rt, monitor, &orders, workforce),
     }
-}
-
-fn work_beside<
-    B: Body,
-    H: Keeper + Send,
-    E: EntryLedger + Send + Sync,
-    O: Ledger + Send + Sync,
-    R: Wait + Clock + Threads + Sync,
-    G: Gate,
-    V: Observer,
->(
-    rt: &R,
-    monitor: &Monitor<B, E, O, H>,
-    orders: &Orders<G, Bell>,
-    observation: Observation<'_, V>,
-    workforce: Workforce<B, E, O>,
-) -> Workforce<B, E, O>
-    requires { observation.watcher.board ≡ E.board }
-{
-    let (_, workforce) = join(
-        rt,
-        || -> ()
-            requires { observation.watcher.board ≡ E.board }
-        { observe(rt, monitor, observation, orders.signal) },
-        || work_and_ring(rt, monitor, orders, workforce),
-    );
-    workforce
 }
 
 fn work_and_ring<

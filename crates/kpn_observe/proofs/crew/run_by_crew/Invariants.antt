@@ -1,4 +1,4 @@
-use Rattle.kpn_observe.proofs.crew.run_opened.Given as goal
+use Rattle.kpn_observe.proofs.crew.run_by_crew.Given as goal
 
 abbrev pub ghosts-run_named-E-EntryLedger : goal.ghosts-run_named-E-EntryLedger
 ghosts-run_named-E-EntryLedger g a = record { net = a.opening.machine.network; board = a.opening.board }
