@@ -16,7 +16,7 @@ pub returns-in-Err-run_bodies-clause-open : goal.returns-in-Err-run_bodies-claus
 returns-in-Err-run_bodies-clause-open g c = λ n bs fault is.
     let o = c.fault_of.ensures.open n bs fault (cc) in
     let handed = given_back g.B.Body.card c.args.net c.in-Ok.field-0.boxed.items c.args.bodies.items c.unboxed.result c.in-Ok.ensures.boxed
-        (unboxed_back g.B.Body.card c.args.net _ c.in-Err-run_bodies.failure c.unboxed.result c.unboxed.ensures.not_run c.unboxed.ensures.lost c.in-Err-run_bodies.ensures.failed) in
+    (unboxed_back g.B.Body.card c.args.net _ c.in-Err-run_bodies.failure c.unboxed.result c.unboxed.ensures.not_run c.unboxed.ensures.lost c.in-Err-run_bodies.ensures.failed) in
     let back = rw o.1 at handed in
     (back.net_is, back.bodies_are o.0, o.0, back.applies)
 
@@ -24,6 +24,6 @@ pub returns-in-Err-run_bodies-clause-memory : goal.returns-in-Err-run_bodies-cla
 returns-in-Err-run_bodies-clause-memory g c = λ n bs is.
     let same = c.fault_of.ensures.memory n bs (cc) in
     let handed = given_back g.B.Body.card c.args.net c.in-Ok.field-0.boxed.items c.args.bodies.items c.unboxed.result c.in-Ok.ensures.boxed
-        (unboxed_back g.B.Body.card c.args.net _ c.in-Err-run_bodies.failure c.unboxed.result c.unboxed.ensures.not_run c.unboxed.ensures.lost c.in-Err-run_bodies.ensures.failed) in
+    (unboxed_back g.B.Body.card c.args.net _ c.in-Err-run_bodies.failure c.unboxed.result c.unboxed.ensures.not_run c.unboxed.ensures.lost c.in-Err-run_bodies.ensures.failed) in
     let back = rw same at handed in
     (back.net_is, back.cards_are, back.applies)
