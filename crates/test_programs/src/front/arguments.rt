@@ -2,7 +2,7 @@
 use crate::checks::same;
 use clap::error::ErrorKind;
 use clap::{Arg, ArgMatches, Command};
-use kpn_args::{with_arg, with_subcommand};
+use kpn_args::{bare, option, subcommand_in, text_in, with_arg, with_subcommand, workers_in};
 use kpn_execute::{Choice, WordsFault, read_words};
 use std::alloc::{AllocError, Global};
 use std::process::Abort;
@@ -92,21 +92,44 @@ fn shows_c0_or_is_refused(read: &Result<Choice<'_>, WordsFault>) -> bool {
 }
 
 fn music_command<'a>(alloc: Global) -> Result<Command<'a>, AllocError> {
-    let play = with_arg(Ok(Command::new(alloc, "play")), Arg::new(alloc, "tune"));
+    let play = bare(alloc, "play", "Plays a tune", "Tunes are files.");
+    let play = with_arg(Ok(play), Arg::new(alloc, "tune"));
+    let play = with_arg(play, option(alloc, "speed", "N", "How fast"));
     with_subcommand(Ok(Command::new(alloc, "music")), play)
 }
 
-fn played<'a>(matches: &ArgMatches<'a>) -> Option<(&'a str, Option<&'a str>)> {
-    let (name, entries) = matches.subcommand()?;
-    Some((name, entries.get_str("tune")))
+/// The subcommand's name, its tune and its speed.
+type Played<'a> = (&'a str, Option<&'a str>, Option<&'a str>);
+
+fn played<'a>(matches: &ArgMatches<'a>) -> Option<Played<'a>> {
+    let (name, entries) = subcommand_in(matches)?;
+    Some((name, text_in(entries, "tune"), text_in(entries, "speed")))
 }
 
 #[test]
 fn steps_make_a_command_line(rt: HostRuntime) {
     let command = music_command(rt.alloc()).expect(&rt, "no memory");
-    let read = command.try_get_matches_from(["music", "play", "a.mid"].as_slice());
+    let words = ["music", "play", "--speed", "7", "a.mid"];
+    let read = command.try_get_matches_from(words.as_slice());
     let matches = read.expect(&rt, "no matches");
-    let found = played(&matches);
-    same(&rt, "played", found, Some(("play", Some("a.mid"))));
+    let due = Some(("play", Some("a.mid"), Some("7")));
+    same(&rt, "played", played(&matches), due);
     drop(matches);
+}
+
+/// A text, and the number of workers that it gives.
+static WORKERS: [(Option<&str>, Option<usize>); 6] = [
+    (None, Some(1)),
+    (Some("1"), Some(1)),
+    (Some("16"), Some(16)),
+    (Some("0"), None),
+    (Some("17"), None),
+    (Some("two"), None),
+];
+
+#[test]
+fn workers_are_one_to_sixteen(rt: HostRuntime) {
+    for (text, due) in &WORKERS {
+        same(&rt, "workers", workers_in(*text), *due);
+    }
 }
