@@ -1,14 +1,12 @@
 -- What the law of the least room says of Parks's case with a counter of five.
-use Rattle.std.proofs.Common.{◌≡◌, ◌≢◌, ℕ, ◌<◌, ◌≤◌, ⊎_elim, inl, List, Option, ◌∷◌, refl, sym, cond, ◌+◌, Some, length, ap, arith, subst}
+use Rattle.std.proofs.Common.{◌≡◌, ◌≢◌, ℕ, ◌<◌, ◌≤◌, ⊎_elim, inl, List, ◌∷◌, refl, sym, cond, ◌+◌, Some, length, ap, arith, subst}
 use Rattle.std.specs.List.{count_by}
 use Rattle.std.proofs.lemmas.List.Recursion.{is_count_by}
-use Rattle.kpn_model.specs.declared.token.Token.{Token}
-use Rattle.kpn_model.specs.declared.kinds.Card.{Card}
 use Rattle.kpn_model.specs.declared.history.Entry.{Entry}
 use Rattle.kpn_model.specs.declared.history.Entry.TheVariants.{Did, Grew}
 use Rattle.kpn_model.specs.declared.history.End.{End}
 use Rattle.kpn_model.specs.declared.history.End.TheVariants.{Budget, Ceiling}
-use Rattle.kpn_model.specs.Network.{Family, Network, channel_of}
+use Rattle.kpn_model.specs.Network.{Family, Network, channel_of, Admits}
 use Rattle.kpn_model.specs.Semantics.{State, capacity}
 use Rattle.kpn_model.specs.Endings.{IsOver, MayEnd, MayStand}
 use Rattle.kpn_model.specs.History.{growths}
@@ -54,7 +52,7 @@ module _ (s : MachineView) (two : TwoPlacesSuffice) (room : TakesLeastRoom stand
   all_entries : length s.history ≤ 54
   all_entries = let few = room.few_entries 2 two.0 (omega arith) in let is = two.1 in omega arith
 
-module _ (kinds : Family) (admits : Card → List ℕ → Option Token → Type 0) (s : MachineView) (family : kinds ≡ standard) (is : s.network ≡ longer_parks_case) (two : TwoPlacesSuffice) (faithful : IsFaithful kinds admits s) (room : TakesLeastRoom kinds s.network s.history s.state) where
+module _ (kinds : Family) (admits : Admits) (s : MachineView) (family : kinds ≡ standard) (is : s.network ≡ longer_parks_case) (two : TwoPlacesSuffice) (faithful : IsFaithful kinds admits s) (room : TakesLeastRoom kinds s.network s.history s.state) where
   abbrev here : TakesLeastRoom standard longer_parks_case s.history s.state
   here = at_the_case kinds s.network s.history s.state family is room
 

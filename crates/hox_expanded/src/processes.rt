@@ -1,6 +1,5 @@
 //! Processes, a line each.
-ghost use Rattle.std.specs.Prelude.{◌≡◌, ◌++◌, ◌<◌, OnOk, IsSome, length, string_bytes};
-ghost use Rattle.kpn_model.specs.Network.{card_of};
+ghost use Rattle.std.specs.Prelude.{◌≡◌, ◌++◌, ◌<◌, OnOk, length, string_bytes};
 ghost use Rattle.kpn_model.specs.texts.Reports.{lines_upto};
 ghost use Rattle.kpn_picture.specs.Titles.{below, name_of};
 ghost use Rattle.hox_expanded.specs.Description.{argument_text, arguments_part, kind_part, later_argument, process_line};
@@ -59,16 +58,6 @@ fn push_arguments(out: &mut String, card: &Card, arity: usize) -> Result<(), All
     Ok(())
 }
 
-/// Returns the card of a process, which has a signature.
-fn card<K: Kinds>(net: &Net<K>, p: usize) -> Card
-    requires { p < length net.now.processes }
-    ensures is { result ≡ card_of net.now p }
-    ensures signed { IsSome (K.signature result) }
-{
-    let _valid = net.processes();
-    net.card(p)
-}
-
 fn push_kind(out: &mut String, title: Title) -> Result<(), AllocError>
     ensures { OnOk result (string_bytes out.new ≡ string_bytes out.old ++ kind_part (name_of title.word.now title.number)) }
 {
@@ -82,7 +71,7 @@ fn push_process<K: Titled>(out: &mut String, net: &Net<K>, p: usize) -> Result<(
     ensures { OnOk result (string_bytes out.new ≡ string_bytes out.old ++ process_line net.now K.title p) }
 {
     let name = process_name(net, p);
-    let card = card(net, p);
+    let card = net.card(p);
     let title = K::title(&card);
     push_name(out, name)?;
     push_kind(out, title)?;

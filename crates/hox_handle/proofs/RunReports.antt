@@ -1,12 +1,10 @@
 -- The report of a run that ended.
-use Rattle.std.proofs.Common.{◌≡◌, ◌++◌, ℕ, true, List, Option, None, Some, refl, sym, ap, ◌∙◌, subst}
-use Rattle.kpn_model.specs.declared.token.Token.{Token}
-use Rattle.kpn_model.specs.declared.kinds.Card.{Card}
+use Rattle.std.proofs.Common.{◌≡◌, ◌++◌, ℕ, true, List, None, Some, refl, sym, ap, ◌∙◌, subst}
 use Rattle.kpn_model.specs.declared.history.Entry.{Entry}
 use Rattle.kpn_model.specs.declared.history.End.{End}
 use Rattle.kpn_model.specs.declared.history.End.TheVariants.{Terminated, Deadlock, Ceiling, Budget, Memory}
 use Rattle.kpn_model.specs.declared.history.Place.{Place}
-use Rattle.kpn_model.specs.Network.{Family, Network}
+use Rattle.kpn_model.specs.Network.{Family, Network, Admits}
 use Rattle.kpn_model.specs.Semantics.{State, wants}
 use Rattle.kpn_model.specs.Endings.{IsOver, MayEnd, MayStand, IsFinal}
 use Rattle.kpn_model.specs.texts.Reports.{has_report}
@@ -33,7 +31,7 @@ module _ (kinds : Family) (net : Network) where
   one_text : OneDigest kinds → (E F : List Entry) (M N : State) (a b : End) → IsFinal kinds net E M a → IsFinal kinds net F N b → report_text kinds net a E M None ≡ report_text kinds net b F N None
   one_text one E F M N a b e f = over_text a E M e.over ∙ ap text_of (one net E F M N a b e f) ∙ sym (over_text b F N f.over)
 
-module _ (kinds : Family) (admits : Card → List ℕ → Option Token → Type 0) (s : MachineView) (cause : End) (faithful : IsFaithful kinds admits s) (ended : s.end ≡ Some cause) where
+module _ (kinds : Family) (admits : Admits) (s : MachineView) (cause : End) (faithful : IsFaithful kinds admits s) (ended : s.end ≡ Some cause) where
   -- its end is justified
   pub justified : MayEnd kinds s.network s.history s.state cause
   justified = subst (MayStand kinds s.network s.history s.state) ended faithful.justified

@@ -2,14 +2,12 @@
 use Rattle.std.proofs.Common.{◌≡◌, ℕ, Bool, true, false, if◌then◌else◌, List, [], Option, Some, None, IfSome, length, refl, sym, ap, ◌∙◌, arith}
 use Rattle.std.specs.Prelude.{slice_index_or}
 use Rattle.std.proofs.lemmas.List.FromFn.{get_or-map-range_with_len}
-use Rattle.kpn_model.specs.declared.token.Token.{Token}
 use Rattle.kpn_model.specs.declared.history.Entry.{Entry}
 use Rattle.kpn_model.specs.declared.history.End.{End}
 use Rattle.kpn_model.specs.declared.history.End.TheVariants.{Terminated, Deadlock, Ceiling, Budget, Memory}
 use Rattle.kpn_model.specs.declared.history.Place.{Place}
 use Rattle.kpn_model.specs.declared.history.Place.TheVariants.{Stopped}
-use Rattle.kpn_model.specs.declared.kinds.Card.{Card}
-use Rattle.kpn_model.specs.Network.{Family, Network}
+use Rattle.kpn_model.specs.Network.{Family, Network, Admits}
 use Rattle.kpn_model.specs.Semantics.{State, wants}
 use Rattle.kpn_model.specs.Endings.{IsOver}
 use Rattle.kpn_model.specs.History.{each_process, place_of}
@@ -27,7 +25,7 @@ placed_by false told place is = is refl
 
 -- what a machine's standings and places tell of its processes is how it left them
 pub leaves_of :
-    (kinds : Family) (admits : Card → List ℕ → Option Token → Type 0) (s : MachineView) (places : List Place) → IsFaithful kinds admits s
+    (kinds : Family) (admits : Admits) (s : MachineView) (places : List Place) → IsFaithful kinds admits s
     → places ≡ each_process s.network (λ p. place_of s.network p (parked_answer (standing s.standings p))) → Leaves kinds s.network s.state (left_at s.standings places)
 leaves_of kinds admits s places faithful are = record {
   ready = λ p enabled. rw (faithful.none_held_back p enabled) refl;

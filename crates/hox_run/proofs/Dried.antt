@@ -1,16 +1,14 @@
 -- Which processes were dry when a run ended, and which streams are whole.
-use Rattle.std.proofs.Common.{◌≡◌, ◌≢◌, ◌↔◌, ◌&&◌, ◌||◌, ◌==◌, ℕ, Bool, true, false, if◌then◌else◌, List, Option, Some, length, not, refl, sym, ap, ◌∙◌, subst}
+use Rattle.std.proofs.Common.{◌≡◌, ◌≢◌, ◌↔◌, ◌&&◌, ◌||◌, ◌==◌, ℕ, Bool, true, false, if◌then◌else◌, List, Some, length, not, refl, sym, ap, ◌∙◌, subst}
 use Rattle.std.specs.List.{All, list_all}
 use Rattle.std.proofs.lemmas.List.Sums.{AllPass-from_list_all}
-use Rattle.kpn_model.specs.declared.token.Token.{Token}
-use Rattle.kpn_model.specs.declared.kinds.Card.{Card}
 use Rattle.kpn_model.specs.declared.history.Entry.{Entry}
 use Rattle.kpn_model.specs.declared.history.End.{End}
 use Rattle.kpn_model.specs.declared.history.End.TheVariants.{Terminated, Deadlock, Ceiling, Budget, Memory}
 use Rattle.kpn_model.specs.declared.history.Place.{Place}
 use Rattle.kpn_model.specs.declared.verdict.Verdict.{Verdict}
 use Rattle.kpn_model.specs.declared.verdict.Verdict.TheVariants.{RanDry, Cut, Full}
-use Rattle.kpn_model.specs.Network.{Family, Network, channel_of}
+use Rattle.kpn_model.specs.Network.{Family, Network, channel_of, Admits}
 use Rattle.kpn_model.specs.Semantics.{State, IsRun}
 use Rattle.kpn_model.specs.Endings.{IsOver}
 use Rattle.kpn_model.specs.texts.Reports.{has_report}
@@ -38,10 +36,10 @@ chosen true verdict other judged dry differs = refl
 chosen false verdict other judged dry differs = absurd (differs (sym judged ∙ dry))
 
 -- the standings of a machine tell what waits
-pub tell_waits : (kinds : Family) (admits : Card → List ℕ → Option Token → Type 0) (s : MachineView) → IsFaithful kinds admits s → TellWaits kinds s.network s.state s.standings
+pub tell_waits : (kinds : Family) (admits : Admits) (s : MachineView) → IsFaithful kinds admits s → TellWaits kinds s.network s.state s.standings
 tell_waits kinds admits s faithful = record { wanted = faithful.wanted; busy = faithful.none_held_back }
 
-module _ (kinds : Family) (admits : Card → List ℕ → Option Token → Type 0) (s : MachineView) (faithful : IsFaithful kinds admits s) where
+module _ (kinds : Family) (admits : Admits) (s : MachineView) (faithful : IsFaithful kinds admits s) where
   exactly : (cause : End) → s.end ≡ Some cause → cause ≢ Budget → (p : ℕ) → (is_told_dry s.network s.standings p ≡ true) ↔ IsDry kinds s.network s.state p
   exactly cause ended other p =
       let tell = tell_waits kinds admits s faithful in (

@@ -1,5 +1,5 @@
 -- What is told of a run that is over is told of each.
-use Rattle.std.proofs.Common.{◌≡◌, ℕ, Bool, true, false, if◌then◌else◌, List, [], ◌++◌, map, get_or, Option, Some, None, codes, slice_index_or, refl, sym, ap, ◌∙◌, subst, string_bytes}
+use Rattle.std.proofs.Common.{◌≡◌, ℕ, Bool, true, false, if◌then◌else◌, List, [], ◌++◌, map, get_or, Some, None, codes, slice_index_or, refl, sym, ap, ◌∙◌, subst, string_bytes}
 use Rattle.std.proofs.Math.Path.{fun_ext}
 use Rattle.std.specs.List.{flat_map}
 use Rattle.kpn_model.specs.declared.token.Token.{Token}
@@ -8,8 +8,7 @@ use Rattle.kpn_model.specs.declared.history.End.{End}
 use Rattle.kpn_model.specs.declared.history.End.TheVariants.{Terminated, Deadlock, Ceiling, Budget, Memory}
 use Rattle.kpn_model.specs.declared.history.Place.{Place}
 use Rattle.kpn_model.specs.declared.verdict.Verdict.{Verdict}
-use Rattle.kpn_model.specs.declared.kinds.Card.{Card}
-use Rattle.kpn_model.specs.Network.{Family, Network}
+use Rattle.kpn_model.specs.Network.{Family, Network, Admits}
 use Rattle.kpn_model.specs.Semantics.{State, start}
 use Rattle.kpn_model.specs.Endings.{IsOver, IsFinal}
 use Rattle.kpn_model.specs.texts.Reports.{has_report}
@@ -116,7 +115,7 @@ module _ (kinds : Family) (net : Network) where
 
 -- so is what is told of the run of a machine that has ended
 pub told_so :
-    (kinds : Family) (admits : Card → List ℕ → Option Token → Type 0) (s : MachineView) (cause : End) (places : List Place) (verdict : Verdict) (show : List (ChannelAs Decimals)) (outputs : List (ChannelAs Layout)) (told : Told)
+    (kinds : Family) (admits : Admits) (s : MachineView) (cause : End) (places : List Place) (verdict : Verdict) (show : List (ChannelAs Decimals)) (outputs : List (ChannelAs Layout)) (told : Told)
     → IsFaithful kinds admits s → TakesLeastRoom kinds s.network s.history s.state → ApproachLeastSolution kinds s.network s.history s.state → AllPrefixComparable kinds → OneDigest kinds → CompleteIsWhole kinds
     → s.end ≡ Some cause → places ≡ each_process s.network (λ p. place_of s.network p (parked_answer (standing s.standings p)))
     → IsJudged s.network (is_told_dry s.network s.standings) show outputs places cause verdict → told.status ≡ status_with verdict told.outputs.items

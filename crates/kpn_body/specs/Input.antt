@@ -4,7 +4,7 @@ use Rattle.kpn_model.specs.declared.token.Token.{Token}
 use Rattle.kpn_model.specs.declared.kinds.Card.{Card}
 use Rattle.kpn_model.specs.declared.kinds.Signature.{Signature}
 use Rattle.kpn_model.specs.declared.kinds.Answer.{Answer}
-use Rattle.kpn_model.specs.Network.{Family}
+use Rattle.kpn_model.specs.Network.{Family, Admits}
 
 pub record Input : Type 0 where
   pub process : ℕ
@@ -19,7 +19,7 @@ abbrev pub answer_to : Family → Input → Answer
 answer_to family asked = family.answer asked.card asked.local asked.last
 
 -- the family's answer to an admitted input of a card with a signature
-pub record IsAnswerTo (signature : Card → Option Signature) (admits : Card → List ℕ → Option Token → Type 0) (family : Family) (asked : Input) (answer : Answer) : Type 0 where
+pub record IsAnswerTo (signature : Card → Option Signature) (admits : Admits) (family : Family) (asked : Input) (answer : Answer) : Type 0 where
   pub signed : IsSome (signature asked.card)
   pub admitted : admits asked.card asked.local asked.last
   pub is : answer ≡ answer_to family asked

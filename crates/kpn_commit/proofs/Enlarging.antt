@@ -1,16 +1,15 @@
 -- The growth of the chosen channel and its writer's put are steps of the definitions.
-use Rattle.std.proofs.Common.{◌≡◌, ◌≢◌, ◌↔◌, ◌∙◌, List, [], length, refl, arith, ℕ, ◌<◌, ◌≤◌, ◌+◌, min, false, Some, None, Option, set}
+use Rattle.std.proofs.Common.{◌≡◌, ◌≢◌, ◌↔◌, ◌∙◌, List, [], length, refl, arith, ℕ, ◌<◌, ◌≤◌, ◌+◌, min, false, Some, None, set}
 use Rattle.std.proofs.lemmas.Bool.{false_from_ne_true}
 use Rattle.std.specs.List.{list_any, Contains}
 use Rattle.kpn_model.specs.declared.token.Token.{Token}
-use Rattle.kpn_model.specs.declared.kinds.Card.{Card}
 use Rattle.kpn_model.specs.declared.kinds.Act.TheVariants.{Write}
 use Rattle.kpn_model.specs.declared.kinds.Answer.{Answer}
 use Rattle.kpn_model.specs.declared.history.Deed.{Deed}
 use Rattle.kpn_model.specs.declared.history.Deed.TheVariants.{Put}
 use Rattle.kpn_model.specs.declared.history.Entry.{Entry}
 use Rattle.kpn_model.specs.declared.history.Entry.TheVariants.{Did, Grew}
-use Rattle.kpn_model.specs.Network.{Network, Family}
+use Rattle.kpn_model.specs.Network.{Network, Family, Admits}
 use Rattle.kpn_model.specs.Semantics.{State, tokens, capacity, with_channel, IsPossible, IsDeed, after_deed, Grows}
 use Rattle.kpn_laws.proofs.States.{tokens_set_same, capacity_set_same, capacity_set_other}
 use Rattle.kpn_laws.proofs.Transitions.{capacity_after}
@@ -30,7 +29,7 @@ use Rattle.kpn_commit.proofs.Waits.{WaitsToWrite, waiting_writer, waiting_reader
 use Rattle.kpn_commit.proofs.Idle.{awaits_blocked, smallest_chosen, smallest_artificial}
 use Rattle.kpn_commit.proofs.Working.{acted}
 
-module _ {kinds : Family} {admits : Card → List ℕ → Option Token → Type 0} {net : Network} {M : State} {l : List Standing} (k : StandingsFit kinds admits net None M l) (c p to : ℕ) (waits : awaited net l p ≡ Some c) where
+module _ {kinds : Family} {admits : Admits} {net : Network} {M : State} {l : List Standing} (k : StandingsFit kinds admits net None M l) (c p to : ℕ) (waits : awaited net l p ≡ Some c) where
   -- the state after the growth
   abbrev grown : State
   grown = with_channel M c (tokens M c) to

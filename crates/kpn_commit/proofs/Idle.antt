@@ -1,12 +1,10 @@
 -- If no process is ready or out, the parked ones decide how the run goes on.
-use Rattle.std.proofs.Common.{◌≡◌, ◌≢◌, ⊎_elim, List, length, arith, ℕ, true, false, Some, None, Option}
+use Rattle.std.proofs.Common.{◌≡◌, ◌≢◌, ⊎_elim, List, length, arith, ℕ, true, false, Some, None}
 use Rattle.std.proofs.lemmas.Bool.{cases_lt, true_from_ne_false}
 use Rattle.std.specs.List.{list_any, list_all}
-use Rattle.kpn_model.specs.declared.token.Token.{Token}
-use Rattle.kpn_model.specs.declared.kinds.Card.{Card}
 use Rattle.kpn_model.specs.declared.kinds.Answer.{Answer}
 use Rattle.kpn_model.specs.declared.history.Status.TheVariants.{Done}
-use Rattle.kpn_model.specs.Network.{Network, Family}
+use Rattle.kpn_model.specs.Network.{Network, Family, Admits}
 use Rattle.kpn_model.specs.Semantics.{State, status, tokens, capacity, wants, IsEnabled, IsQuiet, IsBlocked, IsArtificial, IsChosen}
 use Rattle.kpn_state.specs.declared.standing.Standing.{Standing}
 use Rattle.kpn_state.specs.declared.standing.Standing.TheVariants.{Parked}
@@ -15,7 +13,7 @@ use Rattle.kpn_commit.specs.Candidates.{awaited, IsSmallest}
 use Rattle.kpn_commit.proofs.Waits.{waiting_writer}
 use Rattle.kpn_state.proofs.Placed.{idle_at, stopped_at, one_live}
 
-module _ {kinds : Family} {admits : Card → List ℕ → Option Token → Type 0} {net : Network} {M : State} {l : List Standing} (k : StandingsFit kinds admits net None M l) where
+module _ {kinds : Family} {admits : Admits} {net : Network} {M : State} {l : List Standing} (k : StandingsFit kinds admits net None M l) where
   -- a process that wants something and is neither ready nor out is parked with it
   pub wants_parked : (p : ℕ) (a : Answer) → is_busy (standing l p) ≡ false → wants kinds net M p ≡ Some a → standing l p ≡ Parked a
   wants_parked p a idle w = grind (arith, k.wanted p, k.stopped p)

@@ -10,7 +10,7 @@ use Rattle.kpn_model.specs.declared.kinds.Act.TheVariants.{Read, Write, Stop}
 use Rattle.kpn_model.specs.declared.kinds.Answer.{Answer}
 use Rattle.kpn_model.specs.declared.history.Deed.{Deed}
 use Rattle.kpn_model.specs.declared.history.Status.TheVariants.{Done}
-use Rattle.kpn_model.specs.Network.{Network, Family, card_of, channel_of, in_of, out_of}
+use Rattle.kpn_model.specs.Network.{Network, Family, card_of, channel_of, in_of, out_of, Admits}
 use Rattle.kpn_model.specs.Lawful.{read_by, NamesPort, LeadsOn}
 use Rattle.kpn_model.specs.Semantics.{State, Held, nothing_held, status, tokens, capacity, with_channel, wants, IsPossible, IsDeed, after_deed}
 use Rattle.kpn_model.specs.Valid.{IsValid, IsOfSort, IsWellTyped}
@@ -47,7 +47,7 @@ spared_or_not : (s : Option ℕ) (q : ℕ) → (s ≡ Some q) ⊎ (s ≢ Some q)
 spared_or_not s q = grind arith
 
 -- a state of the network
-record IsOfNetwork (admits : Card → List ℕ → Option Token → Type 0) (net : Network) (M : State) : Type 0 where
+record IsOfNetwork (admits : Admits) (net : Network) (M : State) : Type 0 where
   processes : length M.processes ≡ length net.processes
   channels : length M.channels ≡ length net.channels
   well_typed : IsWellTyped admits net M
@@ -71,7 +71,7 @@ all_and_last : {X : Type 0} (P : X → Type 0) (xs : List X) (y : X) → AllByRe
 all_and_last P [] y h p = (p, tt)
 all_and_last P (x ∷ xs) y h p = (h.0, all_and_last P xs y h.1 p)
 
-module _ {kinds : Family} {admits : Card → List ℕ → Option Token → Type 0} {net : Network} {s : Option ℕ} {M : State} {l : List Standing} (k : StandingsFit kinds admits net s M l) where
+module _ {kinds : Family} {admits : Admits} {net : Network} {s : Option ℕ} {M : State} {l : List Standing} (k : StandingsFit kinds admits net s M l) where
   -- other processes are spared
   spare : (r : Option ℕ) → ((q : ℕ) (a : Answer) → r ≢ Some q → standing l q ≡ Parked a → IsPossible kinds net M q a.act → ⊥) → StandingsFit kinds admits net r M l
   spare r blocked =
@@ -115,7 +115,7 @@ module _ {kinds : Family} {admits : Card → List ℕ → Option Token → Type 
       moved None M p x (record { processes = k.processes; channels = k.channels; well_typed = k.well_typed; smallest = k.smallest; greatest = k.greatest }) within (λ q o. refl)
       (record { stopped = λ e. cc; done = λ e. absurd (live e); wanted = λ a e. cc; blocked = λ a ne e. cc }) (λ q a o ne e. k.blocked q a (others q o) e)
 
-module _ {kinds : Family} {admits : Card → List ℕ → Option Token → Type 0} {net : Network} {M : State} {l : List Standing} where
+module _ {kinds : Family} {admits : Admits} {net : Network} {M : State} {l : List Standing} where
   module _ {p : ℕ} (k : StandingsFit kinds admits net (Some p) M l) where
     -- a deed moves its process on, and enables at most the process at the other end of its channel
     pub keeps_deed :

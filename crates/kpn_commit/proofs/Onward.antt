@@ -1,14 +1,12 @@
 -- A process that is left as it stands, where its deed makes it ready.
 use Rattle.std.proofs.Common.{◌≡◌, ◌≢◌, List, length, length-set, arith, ℕ, ◌<◌, Option, Some, refl, subst, sym, true, set}
 use Rattle.std.proofs.lemmas.List.{set-set, set-get_or, set_comm}
-use Rattle.kpn_model.specs.declared.token.Token.{Token}
-use Rattle.kpn_model.specs.declared.kinds.Card.{Card}
 use Rattle.kpn_model.specs.declared.kinds.Answer.{Answer}
 use Rattle.kpn_model.specs.declared.kinds.Act.{Act}
 use Rattle.kpn_model.specs.declared.kinds.Act.TheVariants.{Read, Write, Stop}
 use Rattle.kpn_model.specs.declared.history.Deed.{Deed}
 use Rattle.kpn_model.specs.declared.history.Deed.TheVariants.{Took, Put, Stopped as DidStop}
-use Rattle.kpn_model.specs.Network.{Network, Family}
+use Rattle.kpn_model.specs.Network.{Network, Family, Admits}
 use Rattle.kpn_model.specs.Semantics.{State, wants, IsDeed, IsPossible}
 use Rattle.kpn_state.specs.StateAndHistory.{StateAndHistory}
 use Rattle.kpn_state.specs.declared.standing.Standing.{Standing}
@@ -23,7 +21,7 @@ use Rattle.kpn_commit.proofs.Working.{partner_ready}
 
 module _ {l : List Standing} {p : ℕ} (within : p < length l) (busy : is_busy (standing l p) ≡ true) where
   -- what holds once it is ready holds as it stands
-  pub keeps_left : {kinds : Family} {admits : Card → List ℕ → Option Token → Type 0} {net : Network} {r : Option ℕ} {N : State} → StandingsFit kinds admits net r N (set l p Ready) → StandingsFit kinds admits net r N l
+  pub keeps_left : {kinds : Family} {admits : Admits} {net : Network} {r : Option ℕ} {N : State} → StandingsFit kinds admits net r N (set l p Ready) → StandingsFit kinds admits net r N l
   keeps_left k =
       let here = standing_set_same l p Ready within in
       let long = length-set l p Ready in

@@ -8,7 +8,7 @@ use Rattle.kpn_model.specs.declared.kinds.Act.TheVariants.{Read, Write, Stop}
 use Rattle.kpn_model.specs.declared.kinds.Answer.{Answer}
 use Rattle.kpn_model.specs.declared.history.Deed.{Deed}
 use Rattle.kpn_model.specs.declared.history.Deed.TheVariants.{Took, Put, Stopped as DidStop}
-use Rattle.kpn_model.specs.Network.{Family, Network, channel_of, in_of, out_of}
+use Rattle.kpn_model.specs.Network.{Family, Network, channel_of, in_of, out_of, Admits}
 use Rattle.kpn_model.specs.Semantics.{State, tokens, capacity, with_channel, IsDeed, after_deed, IsPossible}
 use Rattle.kpn_model.specs.Valid.{IsOfSort}
 use Rattle.kpn_laws.proofs.States.{in_of-reader, out_of-writer}
@@ -23,7 +23,6 @@ use Rattle.kpn_state.proofs.Placed.{standing_set_same, standing_set_other}
 use Rattle.kpn_commit.specs.Candidates.{awaited_by, is_write, waits_to_write, AreCandidates, awaited}
 use Rattle.kpn_commit.specs.Waiting.{expected_by, StandFor, AreMarks, AreWaiting, expected, partner_marked, HasMark}
 use Rattle.kpn_commit.proofs.Keeping.{each_set, still_parked, possible_changed, keeps_all, keeps_fed, keeps_drained}
-use Rattle.kpn_model.specs.declared.kinds.Card.{Card}
 use Rattle.kpn_commit.proofs.Deeds.{Touches, IsOn, possible_off}
 
 -- a process that is parked with a write to the channel
@@ -323,7 +322,7 @@ module _ {net : Network} {l : List Standing} {marks : MarkLists} (k : AreMarks n
 
   -- where the deed's channel has no mark for the other end, no parked process can go on after the deed
   pub others_blocked :
-      {kinds : Family} {admits : Card → List ℕ → Option Token → Type 0} {M : State} {p : ℕ} → StandingsFit kinds admits net (Some p) M l → (a : Answer) (d : Deed) → p < length l → IsDeed kinds net M p a.act d → partner_marked marks d ≡ false
+      {kinds : Family} {admits : Admits} {M : State} {p : ℕ} → StandingsFit kinds admits net (Some p) M l → (a : Answer) (d : Deed) → p < length l → IsDeed kinds net M p a.act d → partner_marked marks d ≡ false
       → (q : ℕ) (b : Answer) → standing (set l p (standing_after d)) q ≡ Parked b → IsPossible kinds net (after_deed kinds net M p a.next d) q b.act → ⊥
   others_blocked {kinds = kinds} {M = M} {p = p} fit a d within is none q b parked can =
       fit.blocked q b (λ f. before.0 (cc)) before.1 (possible_off kinds net M p a.next d q b.act (λ c at on. apart b.act d c refl is none at on) can)
@@ -340,7 +339,7 @@ module _ {net : Network} {l : List Standing} {marks : MarkLists} (k : AreMarks n
       apart x DidStop c act is none at on = absurd on
 
 -- a token comes into a channel at which nobody is parked to read, or goes out of one at which nobody is parked to write
-module _ {kinds : Family} {admits : Card → List ℕ → Option Token → Type 0} {net : Network} {M : State} {l : List Standing} {marks : MarkLists} (k : StandingsFit kinds admits net None M l) (w : AreMarks net l marks) (c : ℕ) (within : c < length M.channels) where
+module _ {kinds : Family} {admits : Admits} {net : Network} {M : State} {l : List Standing} {marks : MarkLists} (k : StandingsFit kinds admits net None M l) (w : AreMarks net l marks) (c : ℕ) (within : c < length M.channels) where
   pub fed_unawaited : (t : Token) → IsOfSort (channel_of net c).sort t → is_marked marks.readers c ≡ false → StandingsFit kinds admits net None (with_channel M c (tokens M c ++ t ∷ []) (capacity M c)) l
   fed_unawaited t sort none =
       keeps_all (keeps_fed k c within t sort)

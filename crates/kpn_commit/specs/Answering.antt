@@ -1,10 +1,8 @@
 -- What may be done with an answer to a coherent core, and what comes of it.
-use Rattle.std.specs.Prelude.{◌≡◌, ◌<◌, ◌≤◌, ◌+◌, ℕ, true, false, List, Option, Some, length, set}
+use Rattle.std.specs.Prelude.{◌≡◌, ◌<◌, ◌≤◌, ◌+◌, ℕ, true, false, List, Some, length, set}
 use Rattle.std.specs.List.{list_any}
-use Rattle.kpn_model.specs.declared.token.Token.{Token}
-use Rattle.kpn_model.specs.declared.kinds.Card.{Card}
 use Rattle.kpn_model.specs.declared.kinds.Answer.{Answer}
-use Rattle.kpn_model.specs.Network.{Family, Network}
+use Rattle.kpn_model.specs.Network.{Family, Network, Admits}
 use Rattle.kpn_model.specs.declared.history.Deed.{Deed}
 use Rattle.kpn_model.specs.declared.history.Entry.TheVariants.{Did}
 use Rattle.kpn_model.specs.Semantics.{wants, IsDeed, after_deed}
@@ -21,7 +19,7 @@ use Rattle.kpn_commit.specs.Reactions.{Reacts}
 use Rattle.kpn_commit.specs.Resolving.{Resolves}
 
 -- p, ready or out, has answered what it wants, and there is room for two entries
-pub record HasAnswered {H : Type 0} (kinds : Family) (admits : Card → List ℕ → Option Token → Type 0) (net : Network) (core : Core H) (p : ℕ) (a : Answer) : Type 0 where
+pub record HasAnswered {H : Type 0} (kinds : Family) (admits : Admits) (net : Network) (core : Core H) (p : ℕ) (a : Answer) : Type 0 where
   pub coherent : IsCoherent kinds admits net core
   pub process : p < length core.standings
   pub wants : wants kinds net core.store.state p ≡ Some a
@@ -29,12 +27,12 @@ pub record HasAnswered {H : Type 0} (kinds : Family) (admits : Card → List ℕ
   pub room : length core.store.history + 2 ≤ core.store.limit
 
 -- the answer has its effect, and no parked process can continue
-pub record ReactsTo {H : Type 0} (kinds : Family) (admits : Card → List ℕ → Option Token → Type 0) (net : Network) (core : Core H) (p : ℕ) (a : Answer) (reaction : Reaction) (moved : Core H) : Type 0 where
+pub record ReactsTo {H : Type 0} (kinds : Family) (admits : Admits) (net : Network) (core : Core H) (p : ℕ) (a : Answer) (reaction : Reaction) (moved : Core H) : Type 0 where
   pub reacts : Reacts kinds net core.store core.standings p a reaction moved.store moved.standings
   pub coherent : IsCoherent kinds admits net moved
 
 -- p, which was parked, does what it answered, and waits no more
-pub record Resumes {H : Type 0} (kinds : Family) (admits : Card → List ℕ → Option Token → Type 0) (net : Network) (core : Core H) (p : ℕ) (moved : Core H) : Type 0 where
+pub record Resumes {H : Type 0} (kinds : Family) (admits : Admits) (net : Network) (core : Core H) (p : ℕ) (moved : Core H) : Type 0 where
   pub wanted : Answer
   pub parked : standing core.standings p ≡ Parked wanted
   pub deed : Deed
@@ -53,18 +51,18 @@ pub record KeepsStanding (standings moved : List Standing) (p : ℕ) : Type 0 wh
   pub many : length moved ≡ length standings
 
 -- no process is ready or out, and there is room for a growth and a put
-pub record IsIdle {H : Type 0} (kinds : Family) (admits : Card → List ℕ → Option Token → Type 0) (net : Network) (core : Core H) : Type 0 where
+pub record IsIdle {H : Type 0} (kinds : Family) (admits : Admits) (net : Network) (core : Core H) : Type 0 where
   pub coherent : IsCoherent kinds admits net core
   pub idle : list_any is_busy core.standings ≡ false
   pub room : length core.store.history + 2 ≤ core.store.limit
 
 -- the run goes on or ends as it must, and no parked process can continue
-pub record ResolvesTo {H : Type 0} (kinds : Family) (admits : Card → List ℕ → Option Token → Type 0) (net : Network) (core : Core H) (resolution : Resolution) (moved : Core H) : Type 0 where
+pub record ResolvesTo {H : Type 0} (kinds : Family) (admits : Admits) (net : Network) (core : Core H) (resolution : Resolution) (moved : Core H) : Type 0 where
   pub resolves : Resolves kinds net core.store core.standings resolution moved.store moved.standings
   pub coherent : IsCoherent kinds admits net moved
 
 -- parked processes become ready until none can continue, and no process is sent out
-pub record OnlyWakes {H : Type 0} (kinds : Family) (admits : Card → List ℕ → Option Token → Type 0) (net : Network) (core moved : Core H) : Type 0 where
+pub record OnlyWakes {H : Type 0} (kinds : Family) (admits : Admits) (net : Network) (core moved : Core H) : Type 0 where
   pub store : moved.store ≡ core.store
   pub coherent : IsCoherent kinds admits net moved
   pub none_sent : (p : ℕ) → standing moved.standings p ≡ Out → standing core.standings p ≡ Out

@@ -1,13 +1,11 @@
 -- The effect of a process's answer on the network.
-use Rattle.std.specs.Prelude.{◌≡◌, ◌≢◌, ◌<◌, ℕ, List, Option, Some, length, set}
-use Rattle.kpn_model.specs.declared.token.Token.{Token}
-use Rattle.kpn_model.specs.declared.kinds.Card.{Card}
+use Rattle.std.specs.Prelude.{◌≡◌, ◌≢◌, ◌<◌, ℕ, List, Some, length, set}
 use Rattle.kpn_model.specs.declared.kinds.Act.{Act}
 use Rattle.kpn_model.specs.declared.kinds.Act.TheVariants.{Stop}
 use Rattle.kpn_model.specs.declared.kinds.Answer.{Answer}
 use Rattle.kpn_model.specs.declared.history.Deed.{Deed}
 use Rattle.kpn_model.specs.declared.history.Entry.TheVariants.{Did}
-use Rattle.kpn_model.specs.Network.{Family, Network}
+use Rattle.kpn_model.specs.Network.{Family, Network, Admits}
 use Rattle.kpn_model.specs.Semantics.{State, IsPossible, IsEnabled, Does, IsDeed, wants, after_deed}
 use Rattle.kpn_state.specs.StateAndHistory.{StateAndHistory, more}
 use Rattle.kpn_state.specs.declared.standing.Standing.{Standing}
@@ -34,14 +32,14 @@ pub record IsLeft (kinds : Family) (net : Network) (s : StateAndHistory) (p : �
   pub same : t ≡ s
 
 -- p wants what it answered, no other parked process can continue, and there is room for one more entry
-pub record WantsToAct (kinds : Family) (admits : Card → List ℕ → Option Token → Type 0) (net : Network) (s : StateAndHistory) (standings : List Standing) (p : ℕ) (a : Answer) : Type 0 where
+pub record WantsToAct (kinds : Family) (admits : Admits) (net : Network) (s : StateAndHistory) (standings : List Standing) (p : ℕ) (a : Answer) : Type 0 where
   pub keeps : StandingsFit kinds admits net (Some p) s.state standings
   pub process : p < length standings
   pub wants : wants kinds net s.state p ≡ Some a
   pub room : length s.history < s.limit
 
 -- p reads or writes as it answered, and would then be ready
-pub record ActsOn (kinds : Family) (admits : Card → List ℕ → Option Token → Type 0) (net : Network) (s : StateAndHistory) (standings : List Standing) (p : ℕ) (a : Answer) (d : Deed) (t : StateAndHistory) : Type 0 where
+pub record ActsOn (kinds : Family) (admits : Admits) (net : Network) (s : StateAndHistory) (standings : List Standing) (p : ℕ) (a : Answer) (d : Deed) (t : StateAndHistory) : Type 0 where
   pub is_deed : IsDeed kinds net s.state p a.act d
   pub entry : t ≡ more s (after_deed kinds net s.state p a.next d) (Did p d)
   pub ready : standing_after d ≡ Ready

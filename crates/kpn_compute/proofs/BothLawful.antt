@@ -5,7 +5,7 @@ use Rattle.kpn_model.specs.declared.kinds.Card.{Card}
 use Rattle.kpn_model.specs.declared.kinds.Signature.{Signature}
 use Rattle.kpn_model.specs.declared.kinds.Act.{Act}
 use Rattle.kpn_model.specs.declared.kinds.Act.TheVariants.{Read, Write, Stop}
-use Rattle.kpn_model.specs.Network.{Family}
+use Rattle.kpn_model.specs.Network.{Family, Admits}
 use Rattle.kpn_model.specs.Lawful.{sort_of, Fits, CardFits, port_at, NamesPort, AfterAct, LeadsOn, AreLawful}
 use Rattle.kpn_compute.specs.declared.both.TheConstants.{NO_KIND}
 use Rattle.kpn_compute.specs.Both.{is_first, own_card, both_ports, both_family, BothAdmit, picked}
@@ -17,7 +17,7 @@ names_same s t c d (Read k) e named = subst (λ (ports : Option Signature). (k <
 names_same s t c d (Write k token) e named = subst (λ (ports : Option Signature). (k < 3) × Fits token × (option_and_then (λ p. port_at p.outs k) ports ≡ Some (sort_of token))) e named
 
 -- and so does what may follow it
-follows_same : (s t : Card → Option Signature) (a b : Card → List ℕ → Option Token → Type 0) (c d : Card) (next : List ℕ) (act : Act) (token : Token) → s c ≡ t d → ((last : Option Token) → a c next last → b d next last) → AfterAct s a c next act token → AfterAct t b d next act token
+follows_same : (s t : Card → Option Signature) (a b : Admits) (c d : Card) (next : List ℕ) (act : Act) (token : Token) → s c ≡ t d → ((last : Option Token) → a c next last → b d next last) → AfterAct s a c next act token → AfterAct t b d next act token
 follows_same s t a b c d next Stop token e admits after = after
 follows_same s t a b c d next (Read k) token e admits after = λ sort fits. admits (Some token) (after (ap (λ ports. option_and_then (λ (p : Signature). port_at p.ins k) ports) e ∙ sort) fits)
 follows_same s t a b c d next (Write k written) token e admits after = admits None after
@@ -31,7 +31,7 @@ of_some_kind : (x : Bool) (ports : Option Signature) → IsSome (if x then None 
 of_some_kind true ports signed = cc
 of_some_kind false ports signed = refl
 
-module _ (s t : Card → Option Signature) (a b : Card → List ℕ → Option Token → Type 0) (f g : Family) (first : AreLawful s a f) (second : AreLawful t b g) where
+module _ (s t : Card → Option Signature) (a b : Admits) (f g : Family) (first : AreLawful s a f) (second : AreLawful t b g) where
   -- the ports of a card are its own family's
   ports_of : (card : Card) (x : Bool) → is_first card ≡ x → IsSome (both_ports s t card) → both_ports s t card ≡ (if x then s else t) (own_card card)
   ports_of card x e signed = of_some_kind (card.kind == NO_KIND) ((if is_first card then s else t) (own_card card)) signed ∙ ap (λ (y : Bool). (if y then s else t) (own_card card)) e

@@ -1,9 +1,8 @@
 -- Two families joined: kind 2k is the first's kind k, and 2k + 1 the second's; NO_KIND is no kind.
 use Rattle.std.specs.Prelude.{◌≡◌, ◌≢◌, ℕ, ◌+◌, ◌-◌, ◌*◌, ◌/◌, ◌%◌, ◌^◌, ◌==◌, nat_lt, if◌then◌else◌, Bool, true, false, List, Option, Some, None, IfSome}
-use Rattle.kpn_model.specs.declared.token.Token.{Token}
 use Rattle.kpn_model.specs.declared.kinds.Card.{Card}
 use Rattle.kpn_model.specs.declared.kinds.Signature.{Signature}
-use Rattle.kpn_model.specs.Network.{Family}
+use Rattle.kpn_model.specs.Network.{Family, Admits}
 use Rattle.kpn_compute.specs.declared.both.TheConstants.{NO_KIND}
 
 abbrev pub is_first : Card → Bool
@@ -49,5 +48,5 @@ abbrev pub picked : Bool → Type 0 → Type 0 → Type 0
 picked true p q = p
 picked false p q = q
 
-abbrev pub BothAdmit : (Card → List ℕ → Option Token → Type 0) → (Card → List ℕ → Option Token → Type 0) → Card → List ℕ → Option Token → Type 0
+abbrev pub BothAdmit : Admits → Admits → Admits
 BothAdmit first second card local last = picked (is_first card) (first (own_card card) local last) (second (own_card card) local last)

@@ -1,11 +1,10 @@
 -- What holds of each flow is kept.
 use Rattle.std.proofs.Common.{◌≡◌, ◌≢◌, ⊎_elim, List, [], ◌∷◌, length, replicate, refl, sym, ap, ◌∙◌, ℕ, ◌<◌, None, Option}
 use Rattle.std.proofs.lemmas.Bool.{cases_lt}
-use Rattle.kpn_model.specs.declared.token.Token.{Token}
 use Rattle.kpn_model.specs.declared.kinds.Card.{Card}
 use Rattle.kpn_model.specs.declared.kinds.Signature.{Signature}
 use Rattle.kpn_model.specs.declared.history.Entry.{Entry}
-use Rattle.kpn_model.specs.Network.{Network, Family, card_of}
+use Rattle.kpn_model.specs.Network.{Network, Family, card_of, Admits}
 use Rattle.kpn_model.specs.Semantics.{State, start}
 use Rattle.kpn_model.specs.Valid.{IsValid}
 use Rattle.kpn_state.specs.declared.standing.Standing.{Standing}
@@ -24,7 +23,7 @@ ready_out e = cc
 ended_out : Stopped ≢ Out
 ended_out e = cc
 
-module _ (kinds : Family) (admits : Card → List ℕ → Option Token → Type 0) (net : Network) (inputs unended outputs : List ℕ) where
+module _ (kinds : Family) (admits : Admits) (net : Network) (inputs unended outputs : List ℕ) where
   -- an event at an end leads on
   pub flowing_on :
       (M N : State) (standings moved : List Standing) (bodies : List (Option Card)) (limit left : ℕ) (counts : Counts) (x : Event) → IsFlowing kinds admits (flow_view net M standings inputs unended outputs counts) bodies limit

@@ -1,16 +1,14 @@
 -- What a stretch does.
-use Rattle.std.proofs.Common.{◌≡◌, ◌≢◌, List, [], ◌∷◌, ◌++◌, append-nil, append_assoc, length, length-append, refl, sym, ap, ◌∙◌, arith, ℕ, ◌+◌, ◌*◌, ◌<◌, ◌≤◌, None, Option, false}
+use Rattle.std.proofs.Common.{◌≡◌, ◌≢◌, List, [], ◌∷◌, ◌++◌, append-nil, append_assoc, length, length-append, refl, sym, ap, ◌∙◌, arith, ℕ, ◌+◌, ◌*◌, ◌<◌, ◌≤◌, None, false}
 use Rattle.std.specs.List.{list_any, sum_by}
 use Rattle.std.proofs.lemmas.Bool.{false_from_ne_true}
 use Rattle.std.proofs.lemmas.List.Sums.{sum_by-set}
-use Rattle.kpn_model.specs.declared.token.Token.{Token}
-use Rattle.kpn_model.specs.declared.kinds.Card.{Card}
 use Rattle.kpn_model.specs.declared.kinds.Answer.{Answer}
 use Rattle.kpn_model.specs.declared.history.Deed.{Deed}
 use Rattle.kpn_model.specs.declared.history.Deed.TheVariants.{Took, Put, Stopped as Halted}
 use Rattle.kpn_model.specs.declared.history.Entry.{Entry}
 use Rattle.kpn_model.specs.declared.history.Entry.TheVariants.{Did, Grew}
-use Rattle.kpn_model.specs.Network.{Network, Family}
+use Rattle.kpn_model.specs.Network.{Network, Family, Admits}
 use Rattle.kpn_model.specs.History.{growths}
 use Rattle.kpn_state.specs.StateAndHistory.{StateAndHistory}
 use Rattle.kpn_state.specs.declared.standing.Standing.{Standing}
@@ -39,7 +37,7 @@ acted_counts (Took c t) = refl
 acted_counts (Put c t) = refl
 acted_counts Halted = refl
 
-module _ (kinds : Family) (admits : Card → List ℕ → Option Token → Type 0) (net : Network) where
+module _ (kinds : Family) (admits : Admits) (net : Network) where
   -- after ready processes were asked no process is out
   pub asked_none_out :
       (until : ℕ) (rs : List Reaction) (s t : StateAndHistory) (l m : List Standing) → ((q : ℕ) → standing l q ≢ Out) → AreAsked kinds admits net until s l rs t m → (q : ℕ) → standing m q ≢ Out
@@ -135,7 +133,7 @@ module _ (kinds : Family) (net : Network) (inputs outputs : List ℕ) where
 
   -- ready processes that are asked one after the other
   pub asked_turned :
-      (admits : Card → List ℕ → Option Token → Type 0) (until : ℕ) (rs : List Reaction) (s t : StateAndHistory) (l m : List Standing) → AreAsked kinds admits net until s l rs t m → Turned s t l m (length rs) 0
+      (admits : Admits) (until : ℕ) (rs : List Reaction) (s t : StateAndHistory) (l m : List Standing) → AreAsked kinds admits net until s l rs t m → Turned s t l m (length rs) 0
   asked_turned admits until [] s t l m h =
       let same = ap (λ (x : List Standing). sum_by is_not_parked x) h.1 in
       record { entries = []; history = ap (λ (x : StateAndHistory). x.history) h.0 ∙ sym (append-nil s.history); run = ap (λ (x : StateAndHistory). x.state) h.0; grows = refl; goes = omega arith }

@@ -3,11 +3,10 @@ use Rattle.std.proofs.Common.{◌≡◌, ◌≢◌, ⊎_elim, List, [], ◌∷�
 use Rattle.std.proofs.lemmas.Bool.{and_parts, and_from, cases_lt}
 use Rattle.std.specs.List.{list_any, list_all}
 use Rattle.kpn_model.specs.declared.token.Token.{Token}
-use Rattle.kpn_model.specs.declared.kinds.Card.{Card}
 use Rattle.kpn_model.specs.declared.kinds.Act.{Act}
 use Rattle.kpn_model.specs.declared.kinds.Act.TheVariants.{Read, Write, Stop}
 use Rattle.kpn_model.specs.declared.kinds.Answer.{Answer}
-use Rattle.kpn_model.specs.Network.{Network, Family, channel_of, in_of, out_of}
+use Rattle.kpn_model.specs.Network.{Network, Family, channel_of, in_of, out_of, Admits}
 use Rattle.kpn_model.specs.Semantics.{State, tokens, capacity, answered, wants, IsEnabled, IsPossible, IsBlocked}
 use Rattle.kpn_laws.proofs.States.{in_of-reader, out_of-writer}
 use Rattle.kpn_state.specs.declared.standing.Standing.{Standing}
@@ -55,7 +54,7 @@ all_at (x ∷ xs) (suc p) e = all_at xs p (and_parts (waits_to_read x) (list_all
 some_token : (t : Token) (ts : List Token) → t ∷ ts ≢ []
 some_token t ts e = cc
 
-module _ (kinds : Family) (admits : Card → List ℕ → Option Token → Type 0) (net : Network) (M : State) (standings : List Standing) (k : StandingsFit kinds admits net None M standings) where
+module _ (kinds : Family) (admits : Admits) (net : Network) (M : State) (standings : List Standing) (k : StandingsFit kinds admits net None M standings) where
   -- a process that can't read finds its channel empty
   empty_there : (p i c : ℕ) → in_of net p i ≡ Some c → (IsPossible kinds net M p (Read i) → ⊥) → tokens M c ≡ []
   empty_there p i c at cant = by_tokens (tokens M c) refl

@@ -5,7 +5,7 @@ use Rattle.std.specs.Io.Iter.{u64_saturate}
 use Rattle.kpn_model.specs.declared.token.Token.{Token}
 use Rattle.kpn_model.specs.declared.kinds.Card.{Card}
 use Rattle.kpn_model.specs.declared.history.Entry.{Entry}
-use Rattle.kpn_model.specs.Network.{Family, Network, card_of, channel_of}
+use Rattle.kpn_model.specs.Network.{Family, Network, card_of, channel_of, Admits}
 use Rattle.kpn_model.specs.Semantics.{State, start}
 use Rattle.kpn_model.specs.History.{growths}
 use Rattle.kpn_model.specs.Valid.{IsOfSort}
@@ -60,12 +60,12 @@ pub record IsReached (kinds : Family) (net : Network) (inputs outputs : List ℕ
   pub counts_are : counts ≡ counted nothing_counted (entries_of events)
 
 -- the standings fit the state, and no process is out
-pub record IsSettledIn (kinds : Family) (admits : Card → List ℕ → Option Token → Type 0) (net : Network) (M : State) (standings : List Standing) : Type 0 where
+pub record IsSettledIn (kinds : Family) (admits : Admits) (net : Network) (M : State) (standings : List Standing) : Type 0 where
   pub keeps : StandingsFit kinds admits net None M standings
   pub none_out : (p : ℕ) → standing standings p ≢ Out
 
 -- a core in which no process is out, with the marks and candidates of its state
-pub record IsSettled {H : Type 0} (kinds : Family) (admits : Card → List ℕ → Option Token → Type 0) (net : Network) (core : Core H) : Type 0 where
+pub record IsSettled {H : Type 0} (kinds : Family) (admits : Admits) (net : Network) (core : Core H) : Type 0 where
   pub fits : IsSettledIn kinds admits net core.store.state core.standings
   pub waiting : AreWaiting net core.store.state core.standings core.waiting
 
@@ -74,7 +74,7 @@ pub record HasAllBodies (net : Network) (bodies : List (Option Card)) : Type 0 w
   pub many : length bodies ≡ length net.processes
   pub each : (p : ℕ) → p < length net.processes → get_or bodies p None ≡ Some (card_of net p)
 
-pub record IsFlowing (kinds : Family) (admits : Card → List ℕ → Option Token → Type 0) (s : FlowView) (bodies : List (Option Card)) (limit : ℕ) : Type 0 where
+pub record IsFlowing (kinds : Family) (admits : Admits) (s : FlowView) (bodies : List (Option Card)) (limit : ℕ) : Type 0 where
   pub ends : AreEnds kinds s.network s.inputs s.outputs
   pub unended : (c : ℕ) → is_among s.unended c ≡ true → is_among s.inputs c ≡ true
   pub reached : IsReached kinds s.network s.inputs s.outputs s.counts s.state

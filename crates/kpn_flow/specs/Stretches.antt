@@ -1,9 +1,8 @@
 -- One stretch of a flow: ready processes are asked, or what follows if none is ready.
 use Rattle.std.specs.Prelude.{◌≡◌, ℕ, ◌+◌, ◌*◌, ◌≤◌, List, [], Option, length, IfSome, IfNone}
 use Rattle.std.specs.List.{sum_by}
-use Rattle.kpn_model.specs.declared.token.Token.{Token}
 use Rattle.kpn_model.specs.declared.kinds.Card.{Card}
-use Rattle.kpn_model.specs.Network.{Family, Network}
+use Rattle.kpn_model.specs.Network.{Family, Network, Admits}
 use Rattle.kpn_state.specs.declared.standing.Standing.TheVariants.{Ready}
 use Rattle.kpn_state.specs.Standings.{standing}
 use Rattle.kpn_commit.specs.declared.cores.Core.{Core}
@@ -13,7 +12,7 @@ use Rattle.kpn_flow.specs.Pauses.{OpenRun, IsRest, TellWants}
 use Rattle.kpn_flow.specs.Waits.{is_not_parked}
 
 -- a settled core and all bodies, a ready process to ask first, if any, and room for the entries of a stretch
-pub record MayStretch {H : Type 0} (kinds : Family) (admits : Card → List ℕ → Option Token → Type 0) (net : Network) (core : Core H) (cards : List (Option Card)) (again : Option ℕ) (until : ℕ) : Type 0 where
+pub record MayStretch {H : Type 0} (kinds : Family) (admits : Admits) (net : Network) (core : Core H) (cards : List (Option Card)) (again : Option ℕ) (until : ℕ) : Type 0 where
   pub settled : IsSettled kinds admits net core
   pub bodies : HasAllBodies net cards
   pub ready : IfSome again (λ p. standing core.standings p ≡ Ready)
@@ -22,7 +21,7 @@ pub record MayStretch {H : Type 0} (kinds : Family) (admits : Card → List ℕ 
 
 -- the history is a run of at most `most` entries to a settled core; none if there is a pause, which says why nothing can
 -- be done; else something was done
-pub record Stretches {H : Type 0} (kinds : Family) (admits : Card → List ℕ → Option Token → Type 0) (net : Network) (inputs outputs : List ℕ) (core : Core H) (most : ℕ) (pause : Option Pause) (moved : Core H) : Type 0 where
+pub record Stretches {H : Type 0} (kinds : Family) (admits : Admits) (net : Network) (inputs outputs : List ℕ) (core : Core H) (most : ℕ) (pause : Option Pause) (moved : Core H) : Type 0 where
   pub settled : IsSettled kinds admits net moved
   pub limit : moved.store.limit ≡ core.store.limit
   pub run : OpenRun kinds net inputs outputs core.store.state moved.store.history moved.store.state

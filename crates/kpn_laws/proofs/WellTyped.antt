@@ -7,7 +7,7 @@ use Rattle.kpn_model.specs.declared.history.Entry.TheVariants.{Did, Grew}
 use Rattle.kpn_model.specs.declared.kinds.Answer.{Answer}
 use Rattle.kpn_model.specs.declared.kinds.Card.{Card}
 use Rattle.kpn_model.specs.declared.kinds.Signature.{Signature}
-use Rattle.kpn_model.specs.Network.{Network, channel_of, Family, card_of, no_process}
+use Rattle.kpn_model.specs.Network.{Network, channel_of, Family, card_of, no_process, Admits}
 use Rattle.kpn_model.specs.Semantics.{State, status, wants, start, Transition, IsRun}
 use Rattle.kpn_model.specs.Lawful.{read_by, CardFits, NamesPort, LeadsOn, AreLawful}
 use Rattle.kpn_model.specs.Valid.{IsValid, IsOfSort, IsWellTyped, StaysWellTyped}
@@ -18,7 +18,7 @@ use Rattle.kpn_laws.proofs.KeptByGrowths.{blocked_within, tokens_grew}
 use Rattle.kpn_laws.proofs.KeptByRuns.{kept_run}
 use Rattle.kpn_laws.proofs.WellTypedDeeds.{live_of, sorted_deed, sorted_start}
 
-module _ (signature : Card → Option Signature) (admits : Card → List ℕ → Option Token → Type 0) (kinds : Family) (net : Network) (valid : IsValid signature net) (laws : AreLawful signature admits kinds) where
+module _ (signature : Card → Option Signature) (admits : Admits) (kinds : Family) (net : Network) (valid : IsValid signature net) (laws : AreLawful signature admits kinds) where
   -- a process of the network has a card with a signature, whose numbers fit
   signed_at : (p : ℕ) → p < length net.processes → CardFits (card_of net p) × IsSome (signature (card_of net p))
   signed_at p within = (valid.cards p no_process within, valid.signed p no_process within)
@@ -57,5 +57,5 @@ module _ (signature : Card → Option Signature) (admits : Card → List ℕ →
       (λ H M e N before ih s. sorted_step H M e N (kept_run kinds net (start kinds net) (fresh_start kinds net) H M before) ih s)
 
 -- each run of a valid network of lawful kinds is well-typed at each moment
-pub always_sorted : (signature : Card → Option Signature) (admits : Card → List ℕ → Option Token → Type 0) (kinds : Family) → AreLawful signature admits kinds → StaysWellTyped signature admits kinds
+pub always_sorted : (signature : Card → Option Signature) (admits : Admits) (kinds : Family) → AreLawful signature admits kinds → StaysWellTyped signature admits kinds
 always_sorted signature admits kinds laws net valid E M run = sorted_run signature admits kinds net valid laws E M run

@@ -14,7 +14,7 @@ use Rattle.kpn_model.specs.declared.history.Status.{Status}
 use Rattle.kpn_model.specs.declared.history.Status.TheVariants.{Done, Live}
 use Rattle.kpn_model.specs.declared.parts.Process.{Process}
 use Rattle.kpn_model.specs.declared.parts.Channel.{Channel}
-use Rattle.kpn_model.specs.Network.{Network, Family, no_channel, no_process, channel_of, card_of, in_of, out_of}
+use Rattle.kpn_model.specs.Network.{Network, Family, no_channel, no_process, channel_of, card_of, in_of, out_of, Admits}
 use Rattle.kpn_model.specs.Lawful.{sort_of, Fits, read_by, in_sort, out_sort, NamesPort, LeadsOn}
 use Rattle.kpn_model.specs.Semantics.{State, status, tokens, with_status, answered, wants, IsDeed, after_deed, start}
 use Rattle.kpn_model.specs.Valid.{IsValid, IsOfSort, IsWellTyped}
@@ -32,7 +32,7 @@ pub live_of : (kinds : Family) (net : Network) (p : ℕ) (s : Status) (a : Answe
 live_of kinds net p (Live local last) a w = (local, (last, refl, same_Some _ _ w))
 live_of kinds net p Done a w = cc
 
-module _ (signature : Card → Option Signature) (admits : Card → List ℕ → Option Token → Type 0) (kinds : Family) (net : Network) (valid : IsValid signature net) where
+module _ (signature : Card → Option Signature) (admits : Admits) (kinds : Family) (net : Network) (valid : IsValid signature net) where
   -- all tokens are such as c may hold
   abbrev AreOf : ℕ → List Token → Type 0
   AreOf c ts = AllByRecursion (IsOfSort (channel_of net c).sort) ts

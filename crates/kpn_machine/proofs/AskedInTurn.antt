@@ -1,8 +1,7 @@
 -- Ready processes that are asked, one after the other.
 use Rattle.std.proofs.Common.{◌≡◌, List, [], ◌∷◌, ◌++◌, length, refl, subst, ℕ, ◌<◌, Option, Some}
-use Rattle.kpn_model.specs.declared.token.Token.{Token}
 use Rattle.kpn_model.specs.declared.kinds.Card.{Card}
-use Rattle.kpn_model.specs.Network.{Network, Family}
+use Rattle.kpn_model.specs.Network.{Network, Family, Admits}
 use Rattle.kpn_state.specs.StateAndHistory.{StateAndHistory}
 use Rattle.kpn_state.specs.declared.standing.Standing.{Standing}
 use Rattle.kpn_state.proofs.Placed.{standing_within}
@@ -12,7 +11,7 @@ use Rattle.kpn_machine.specs.MachineView.{HasBodies}
 use Rattle.kpn_machine.specs.Asking.{IsAsked, AreAsked}
 use Rattle.kpn_machine.proofs.Moves.{Moves, reacts}
 
-module _ {kinds : Family} {admits : Card → List ℕ → Option Token → Type 0} {net : Network} where
+module _ {kinds : Family} {admits : Admits} {net : Network} where
   -- who is asked is one of the processes
   pub asked_within : {s t : StateAndHistory} {l m : List Standing} {r : Reaction} (h : IsAsked kinds admits net s l r t m) → h.process < length l
   asked_within {l = l} h = let ready = h.ready in standing_within l h.process (λ e. cc)

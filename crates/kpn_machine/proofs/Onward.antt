@@ -6,7 +6,7 @@ use Rattle.kpn_model.specs.declared.kinds.Card.{Card}
 use Rattle.kpn_model.specs.declared.history.Entry.{Entry}
 use Rattle.kpn_model.specs.declared.history.End.{End}
 use Rattle.kpn_model.specs.declared.history.Status.TheVariants.{Live}
-use Rattle.kpn_model.specs.Network.{Network, Family}
+use Rattle.kpn_model.specs.Network.{Network, Family, Admits}
 use Rattle.kpn_model.specs.Semantics.{State, status}
 use Rattle.kpn_body.specs.Input.{Input, answer_to, input}
 use Rattle.kpn_state.specs.StateAndHistory.{state_and_history}
@@ -21,12 +21,12 @@ use Rattle.kpn_machine.specs.Commits.{CommitsOn}
 use Rattle.kpn_machine.proofs.Sound.{worked, sound_taken, out_within}
 
 -- it keeps the invariant, and is one of the definitions
-pub record GoesOn (kinds : Family) (admits : Card → List ℕ → Option Token → Type 0) (s : MachineView) (i : Input) (o : Outcome) (j : Input) (t : MachineView) (limit : ℕ) (bodies : List (Option Card)) : Type 0 where
+pub record GoesOn (kinds : Family) (admits : Admits) (s : MachineView) (i : Input) (o : Outcome) (j : Input) (t : MachineView) (limit : ℕ) (bodies : List (Option Card)) : Type 0 where
   pub sound : IsSound kinds admits t limit bodies
   pub goes : CommitsOn kinds s i o j t
 
 pub went_on :
-    {kinds : Family} {admits : Card → List ℕ → Option Token → Type 0} {net : Network} {M : State} {E : List Entry} {l : List Standing} {end : Option End} {commits limit : ℕ} {bodies : List (Option Card)} → IsSound kinds admits (machine_view net M E l end commits) limit bodies → (i : Input) → IsOutAt net M l i → end ≡ None
+    {kinds : Family} {admits : Admits} {net : Network} {M : State} {E : List Entry} {l : List Standing} {end : Option End} {commits limit : ℕ} {bodies : List (Option Card)} → IsSound kinds admits (machine_view net M E l end commits) limit bodies → (i : Input) → IsOutAt net M l i → end ≡ None
     → (o : Outcome) (N : State) (F : List Entry) (m : List Standing) (rest : ℕ) → standing m i.process ≡ standing l i.process → length m ≡ length l
     → Works kinds net (state_and_history M E limit) l i.process (answer_to kinds i) o (state_and_history N F rest) (set m i.process Ready) None → StandingsFit kinds admits net None N (set m i.process Ready)
     → (local : List ℕ) (last : Option Token) → status N i.process ≡ Live local last

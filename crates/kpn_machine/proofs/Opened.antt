@@ -3,13 +3,12 @@ use Rattle.std.proofs.Common.{◌≡◌, ◌≢◌, ⊎_elim, List, [], ◌∷�
 use Rattle.std.specs.List.{list_all}
 use Rattle.std.proofs.lemmas.Bool.{cases_lt}
 use Rattle.std.proofs.lemmas.List.{get_or_past, get_or-replicate, length-map, length-replicate}
-use Rattle.kpn_model.specs.declared.token.Token.{Token}
 use Rattle.kpn_model.specs.declared.kinds.Card.{Card}
 use Rattle.kpn_model.specs.declared.kinds.Signature.{Signature}
 use Rattle.kpn_model.specs.declared.history.Status.TheVariants.{Live, Done}
 use Rattle.kpn_model.specs.declared.parts.Process.{Process}
 use Rattle.kpn_model.specs.declared.parts.Channel.{Channel}
-use Rattle.kpn_model.specs.Network.{Network, Family, no_channel, card_of}
+use Rattle.kpn_model.specs.Network.{Network, Family, no_channel, card_of, Admits}
 use Rattle.kpn_model.specs.Semantics.{State, nothing_held, start}
 use Rattle.kpn_model.specs.Valid.{IsValid}
 use Rattle.kpn_laws.proofs.WellTypedDeeds.{sorted_start}
@@ -47,7 +46,7 @@ capacity_start [] c = refl
 capacity_start (l ∷ ls) zero = refl
 capacity_start (l ∷ ls) (suc c) = capacity_start ls c
 
-module _ (signature : Card → Option Signature) (admits : Card → List ℕ → Option Token → Type 0) (kinds : Family) (net : Network) (valid : IsValid signature net) (starts : (p : ℕ) → p < length net.processes → admits (card_of net p) (kinds.start (card_of net p)) None) where
+module _ (signature : Card → Option Signature) (admits : Admits) (kinds : Family) (net : Network) (valid : IsValid signature net) (starts : (p : ℕ) → p < length net.processes → admits (card_of net p) (kinds.start (card_of net p)) None) where
   pub keeps_start : StandingsFit kinds admits net None (start kinds net) (replicate (length net.processes) Ready)
   keeps_start =
       let n = length net.processes in

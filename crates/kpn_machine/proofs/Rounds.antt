@@ -2,10 +2,9 @@
 use Rattle.std.proofs.Common.{◌≡◌, ◌↔◌, List, [], ◌∷◌, ◌++◌, append-nil, length, refl, sym, ap, subst, ◌∙◌, arith, ℕ, ◌+◌, ◌<◌, ◌≤◌, true, false, Option, None}
 use Rattle.std.proofs.lemmas.Grind.{common_steps}
 use Rattle.std.specs.List.{list_any}
-use Rattle.kpn_model.specs.declared.token.Token.{Token}
 use Rattle.kpn_model.specs.declared.kinds.Card.{Card}
 use Rattle.kpn_model.specs.declared.history.End.{End}
-use Rattle.kpn_model.specs.Network.{Network, Family}
+use Rattle.kpn_model.specs.Network.{Network, Family, Admits}
 use Rattle.kpn_state.specs.StateAndHistory.{StateAndHistory}
 use Rattle.kpn_state.specs.declared.standing.Standing.{Standing}
 use Rattle.kpn_state.specs.declared.standing.Standing.TheVariants.{Out}
@@ -29,7 +28,7 @@ use Rattle.kpn_machine.proofs.Sound.{goes_round}
 unspent : (budget n : ℕ) → n < budget → end_after Busy budget n ≡ None
 unspent budget n less = grind (arith, common_steps)
 
-module _ (kinds : Family) (admits : Card → List ℕ → Option Token → Type 0) (net : Network) where
+module _ (kinds : Family) (admits : Admits) (net : Network) where
   -- who is asked was busy
   asked_busy : (s t : StateAndHistory) (l m : List Standing) (r : Reaction) → IsAsked kinds admits net s l r t m → list_any is_busy l ≡ true
   asked_busy s t l m r h = let ready = h.ready in busy_at l h.process (rw ready refl)

@@ -2,13 +2,12 @@
 use Rattle.std.proofs.Common.{◌≡◌, ◌≢◌, ◌⊎◌, ◌↔◌, ⊎_elim, inl, inr, List, length, length-append, refl, ap, ◌∙◌, arith, ℕ, ◌+◌, ◌<◌, ◌≤◌, true, false, Some, None, Option, set, length-set}
 use Rattle.std.specs.Option.{is_some}
 use Rattle.std.specs.List.{list_any}
-use Rattle.kpn_model.specs.declared.token.Token.{Token}
 use Rattle.kpn_model.specs.declared.kinds.Card.{Card}
 use Rattle.kpn_model.specs.declared.kinds.Signature.{Signature}
 use Rattle.kpn_model.specs.declared.kinds.Answer.{Answer}
 use Rattle.kpn_model.specs.declared.history.Entry.{Entry}
 use Rattle.kpn_model.specs.declared.history.End.{End}
-use Rattle.kpn_model.specs.Network.{Network, Family, card_of}
+use Rattle.kpn_model.specs.Network.{Network, Family, card_of, Admits}
 use Rattle.kpn_model.specs.Semantics.{State, wants, start, status, IsRun}
 use Rattle.kpn_model.specs.Moments.{IsWithin, AtEachMoment}
 use Rattle.kpn_model.specs.Valid.{IsValid, IsWellTyped, StaysWellTyped}
@@ -73,7 +72,7 @@ bodies_back net l m bodies p card within is has keeps =
     each_set (λ q (b : Option Card). q < length net.processes → standing m q ≢ Out → b ≡ Some (card_of net q)) bodies p (Some card) None within (λ there n. cc)
     (λ q o there n. ⊎_elim (λ e. absurd (n (keeps q o e))) (λ ne. has q there ne) (out_or_not (standing l q)))
 
-module _ {kinds : Family} {admits : Card → List ℕ → Option Token → Type 0} where
+module _ {kinds : Family} {admits : Admits} where
   -- a live process that is neither ready nor out wants what it answered
   idle_wants : {net : Network} {M : State} {l : List Standing} → StandingsFit kinds admits net None M l → (p : ℕ) (x : Standing) → standing l p ≡ x → is_busy x ≡ false → wants kinds net M p ≡ parked_answer x
   idle_wants k p x e idle = grind (arith, k.wanted p, k.stopped p)
@@ -254,12 +253,12 @@ module _ (kinds : Family) (net : Network) where
       record { reaction = w.reaction; between = w.between; standings_between = w.standings_between; reacts = reacts_out s l p a w.reaction w.between w.standings_between w.reacts; resolution = w.resolution; resolves = w.resolves; outcome_is = w.outcome_is; end_is = w.end_is }
 
 -- a round keeps the invariant, and is one of the definitions
-pub record Round (kinds : Family) (admits : Card → List ℕ → Option Token → Type 0) (s t : MachineView) (limit : ℕ) (bodies : List (Option Card)) : Type 0 where
+pub record Round (kinds : Family) (admits : Admits) (s t : MachineView) (limit : ℕ) (bodies : List (Option Card)) : Type 0 where
   pub sound : IsSound kinds admits t limit bodies
   pub goes : GoesRound kinds s t
 
 pub goes_round :
-    {kinds : Family} {admits : Card → List ℕ → Option Token → Type 0} {net : Network} {M : State} {E : List Entry} {l : List Standing} {end : Option End} {commits limit : ℕ} {bodies : List (Option Card)} → IsSound kinds admits (machine_view net M E l end commits) limit bodies → (p : ℕ) (a : Answer) → end ≡ None → standing l p ≡ Ready → wants kinds net M p ≡ Some a
+    {kinds : Family} {admits : Admits} {net : Network} {M : State} {E : List Entry} {l : List Standing} {end : Option End} {commits limit : ℕ} {bodies : List (Option Card)} → IsSound kinds admits (machine_view net M E l end commits) limit bodies → (p : ℕ) (a : Answer) → end ≡ None → standing l p ≡ Ready → wants kinds net M p ≡ Some a
     → (o : Outcome) (N : State) (F : List Entry) (m : List Standing) (stop : Option End) (rest : ℕ) → Works kinds net (state_and_history M E limit) l p a o (state_and_history N F rest) m stop → StandingsFit kinds admits net None N m
     → Round kinds admits (machine_view net M E l end commits) (machine_view net N F m stop (commits + 1)) rest bodies
 goes_round {kinds = kinds} {net = net} {M = M} {E = E} {l = l} {end = end} {commits = commits} {limit = limit} {bodies = bodies} h p a none ready wanted o N F m stop rest works k =

@@ -1,9 +1,7 @@
 -- Asking ready processes, one after the other.
-use Rattle.std.specs.Prelude.{◌≡◌, ℕ, ◌<◌, List, [], ◌∷◌, Option, Some, None, length}
-use Rattle.kpn_model.specs.declared.token.Token.{Token}
-use Rattle.kpn_model.specs.declared.kinds.Card.{Card}
+use Rattle.std.specs.Prelude.{◌≡◌, ℕ, ◌<◌, List, [], ◌∷◌, Some, None, length}
 use Rattle.kpn_model.specs.declared.kinds.Answer.{Answer}
-use Rattle.kpn_model.specs.Network.{Family, Network}
+use Rattle.kpn_model.specs.Network.{Family, Network, Admits}
 use Rattle.kpn_model.specs.Semantics.{wants}
 use Rattle.kpn_state.specs.StateAndHistory.{StateAndHistory}
 use Rattle.kpn_state.specs.declared.standing.Standing.{Standing}
@@ -12,7 +10,7 @@ use Rattle.kpn_state.specs.Standings.{standing, StandingsFit}
 use Rattle.kpn_commit.specs.declared.react.Reaction.{Reaction}
 use Rattle.kpn_commit.specs.Reactions.{Reacts}
 
-module _ (kinds : Family) (admits : Card → List ℕ → Option Token → Type 0) (net : Network) where
+module _ (kinds : Family) (admits : Admits) (net : Network) where
   -- a ready process is asked, and does what it wants or is parked; a parked process may then do its deed
   pub record IsAsked (s : StateAndHistory) (standings : List Standing) (reaction : Reaction) (t : StateAndHistory) (moved : List Standing) : Type 0 where
     pub process : ℕ

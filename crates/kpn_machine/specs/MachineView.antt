@@ -1,13 +1,12 @@
 -- The machine as contracts see it.
 use Rattle.std.specs.Prelude.{◌≡◌, ◌≢◌, ℕ, ◌+◌, ◌<◌, ◌≤◌, true, false, List, [], Option, Some, None, length, get_or, set}
 use Rattle.std.specs.List.{list_any, list_all, sum_by}
-use Rattle.kpn_model.specs.declared.token.Token.{Token}
 use Rattle.kpn_model.specs.declared.kinds.Card.{Card}
 use Rattle.kpn_model.specs.declared.history.Status.TheVariants.{Live}
 use Rattle.kpn_model.specs.declared.history.Entry.{Entry}
 use Rattle.kpn_model.specs.declared.history.End.{End}
 use Rattle.kpn_model.specs.declared.history.End.TheVariants.{Budget}
-use Rattle.kpn_model.specs.Network.{Family, Network, card_of}
+use Rattle.kpn_model.specs.Network.{Family, Network, card_of, Admits}
 use Rattle.kpn_model.specs.Semantics.{State, status, wants, IsEnabled, IsRun}
 use Rattle.kpn_model.specs.Endings.{MayStand}
 use Rattle.kpn_model.specs.Moments.{IsWithin, AtEachMoment}
@@ -71,7 +70,7 @@ stays_in Stopped = 1
 
 -- the history is a run to the state, and all else fits; there are at most as many answers as entries and
 -- parked processes, and after the end as entries and processes that are not out
-pub record IsSound (kinds : Family) (admits : Card → List ℕ → Option Token → Type 0) (s : MachineView) (limit : ℕ) (bodies : List (Option Card)) : Type 0 where
+pub record IsSound (kinds : Family) (admits : Admits) (s : MachineView) (limit : ℕ) (bodies : List (Option Card)) : Type 0 where
   pub run : IsRun kinds s.network s.history s.state
   pub keeps : StandingsFit kinds admits s.network None s.state s.standings
   pub limit_is : limit ≡ s.network.budget + 2
@@ -88,7 +87,7 @@ pub record IsSound (kinds : Family) (admits : Card → List ℕ → Option Token
 -- its end is justified; an enabled process is ready or out, and one that is neither wants what it answered;
 -- some process is ready or out exactly until the run ends, unless the budget ended it; there are at most
 -- budget + 2 entries, and at most as many answers as entries and processes
-pub record IsFaithful (kinds : Family) (admits : Card → List ℕ → Option Token → Type 0) (s : MachineView) : Type 0 where
+pub record IsFaithful (kinds : Family) (admits : Admits) (s : MachineView) : Type 0 where
   pub run : IsRun kinds s.network s.history s.state
   pub within : AtEachMoment kinds s.network s.history IsWithin
   pub well_typed : AtEachMoment kinds s.network s.history (IsWellTyped admits s.network)

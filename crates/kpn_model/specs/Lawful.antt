@@ -12,7 +12,7 @@ use Rattle.kpn_model.specs.declared.kinds.Act.TheVariants.{Read, Write, Stop}
 use Rattle.kpn_model.specs.declared.kinds.Answer.{Answer}
 use Rattle.kpn_model.specs.declared.history.Deed.{Deed}
 use Rattle.kpn_model.specs.declared.history.Deed.TheVariants.{Took, Put, Stopped}
-use Rattle.kpn_model.specs.Network.{Family}
+use Rattle.kpn_model.specs.Network.{Family, Admits}
 
 abbrev pub sort_of : Token → Sort
 sort_of (Word n) = Words
@@ -54,7 +54,7 @@ module _ (signature : Card → Option Signature) where
   NamesPort card (Read k) = (k < 3) × IsSome (in_sort card k)
   NamesPort card (Write k t) = (k < 3) × Fits t × (out_sort card k ≡ Some (sort_of t))
 
-  module _ (admits : Card → List ℕ → Option Token → Type 0) where
+  module _ (admits : Admits) where
     abbrev pub AfterAct : Card → List ℕ → Act → Token → Type 0
     AfterAct card next Stop token = Unit {0}
     AfterAct card next (Read k) token = in_sort card k ≡ Some (sort_of token) → Fits token → admits card next (Some token)

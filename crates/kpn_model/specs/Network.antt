@@ -13,6 +13,10 @@ pub record Family : Type 0 where
   pub start : Card → List ℕ
   pub answer : Card → List ℕ → Option Token → Answer
 
+-- what a card admits: these local states, after a read of this token, if any
+abbrev pub Admits : Type 1
+Admits = Card → List ℕ → Option Token → Type 0
+
 abbrev pub family_of : (Card → List ℕ) → (Card → List ℕ → Option Token → Answer) → Family
 family_of begin answers = record { start = begin; answer = answers }
 

@@ -10,7 +10,7 @@ use Rattle.kpn_model.specs.declared.limits.TheConstants.{MOST_PROCESSES, MOST_CH
 use Rattle.kpn_model.specs.declared.history.Entry.{Entry}
 use Rattle.kpn_model.specs.declared.history.Status.TheVariants.{Live}
 use Rattle.kpn_model.specs.texts.NameForm.{is_name}
-use Rattle.kpn_model.specs.Network.{Family, Network, card_of, channel_of}
+use Rattle.kpn_model.specs.Network.{Family, Network, card_of, channel_of, Admits}
 use Rattle.kpn_model.specs.Lawful.{sort_of, Fits, CardFits, in_sort, out_sort}
 use Rattle.kpn_model.specs.Semantics.{State, status, tokens, IsRun}
 
@@ -54,11 +54,11 @@ module _ (signature : Card → Option Signature) (net : Network) where
     pub smaller_budget : net.ceiling ≤ CEILING → net.budget ≤ GREATEST_BUDGET
 
 -- each token has its channel's sort, and each live process's state is admitted
-pub record IsWellTyped (admits : Card → List ℕ → Option Token → Type 0) (net : Network) (M : State) : Type 0 where
+pub record IsWellTyped (admits : Admits) (net : Network) (M : State) : Type 0 where
   pub tokens : (c : ℕ) → AllByRecursion (IsOfSort (channel_of net c).sort) (tokens M c)
   pub locals : (p : ℕ) (local : List ℕ) (last : Option Token) → status M p ≡ Live local last → admits (card_of net p) local last
 
 -- each run of a valid network is well-typed at each moment
-abbrev pub StaysWellTyped : (Card → Option Signature) → (Card → List ℕ → Option Token → Type 0) → Family → Type 0
+abbrev pub StaysWellTyped : (Card → Option Signature) → Admits → Family → Type 0
 StaysWellTyped signature admits kinds =
     (net : Network) → IsValid signature net → (E : List Entry) (M : State) → IsRun kinds net E M → IsWellTyped admits net M

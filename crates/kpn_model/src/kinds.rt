@@ -50,7 +50,7 @@ pub trait Kinds: Send + Sync {
     ghost use Rattle.kpn_model.specs.declared.kinds.Signature.{Signature};
     ghost use Rattle.kpn_model.specs.declared.token.Token.{Token};
     ghost use Rattle.kpn_model.specs.declared.kinds.Answer.{Answer};
-    ghost use Rattle.kpn_model.specs.Network.{family_of};
+    ghost use Rattle.kpn_model.specs.Network.{Admits, family_of};
     ghost use Rattle.kpn_model.specs.Lawful.{AreLawful, NamesPort, LeadsOn, is_filled};
 
     ghost named: { List ℕ → Option (ℕ × ℕ) };
@@ -61,7 +61,7 @@ pub trait Kinds: Send + Sync {
 
     ghost answer_of: { Card → List ℕ → Option Token → Answer };
 
-    ghost admits: { Card → List ℕ → Option Token → Type 0 };
+    ghost admits: { Admits };
 
     /// Returns the kind's number and its number of arguments; `None` if no kind has this name.
     fn named(name: &str) -> Option<(u16, usize)>

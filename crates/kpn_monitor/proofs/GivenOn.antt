@@ -1,11 +1,9 @@
 -- Answers that are given one after the other, where processes may go out again.
-use Rattle.std.proofs.Common.{◌≡◌, ◌∙◌, inl, inr, ℕ, ◌+◌, ◌<◌, List, [], ◌∷◌, ◌++◌, length, length-set, set, refl, ap, sym, subst, arith, true, false, Option, append-nil}
+use Rattle.std.proofs.Common.{◌≡◌, ◌∙◌, inl, inr, ℕ, ◌+◌, ◌<◌, List, [], ◌∷◌, ◌++◌, length, length-set, set, refl, ap, sym, subst, arith, true, false, append-nil}
 use Rattle.std.proofs.lemmas.List.{set-set, set-get_or}
 use Rattle.std.proofs.lemmas.List.Elements.{All-append}
 use Rattle.std.specs.List.{All}
-use Rattle.kpn_model.specs.declared.token.Token.{Token}
-use Rattle.kpn_model.specs.declared.kinds.Card.{Card}
-use Rattle.kpn_model.specs.Network.{Network, Family}
+use Rattle.kpn_model.specs.Network.{Network, Family, Admits}
 use Rattle.kpn_model.specs.Semantics.{wants, IsEnabled}
 use Rattle.kpn_body.specs.Input.{Input}
 use Rattle.kpn_state.specs.declared.standing.Standing.{Standing}
@@ -30,7 +28,7 @@ commits_network kinds s i (Parked n) t one = one.network
 commits_network kinds s i LaidBack t one = ap (λ (x : MachineView). x.network) one.1
 
 -- what holds of a machine of which a process went out held of it before
-module _ (kinds : Family) (admits : Card → List ℕ → Option Token → Type 0) (s : MachineView) (i : Input) (t : MachineView) (takes : TakesOut s i t) where
+module _ (kinds : Family) (admits : Admits) (s : MachineView) (i : Input) (t : MachineView) (takes : TakesOut s i t) where
   within : i.process < length s.standings
   within = let ready = takes.ready in standing_within s.standings i.process (λ e. cc)
 
@@ -60,7 +58,7 @@ module _ (kinds : Family) (admits : Card → List ℕ → Option Token → Type 
       }
 
 -- the first answer was given, and the process does not go out again
-pub gave_up : (kinds : Family) (admits : Card → List ℕ → Option Token → Type 0) (s : MachineView) (p : Placed) (t : MachineView) (q : Placed) (i : Input) (o : Outcome)
+pub gave_up : (kinds : Family) (admits : Admits) (s : MachineView) (p : Placed) (t : MachineView) (q : Placed) (i : Input) (o : Outcome)
     → p.tasks ≡ i ∷ q.tasks → p.called ≡ q.called + 1 → q.outcomes ≡ p.outcomes ++ o ∷ [] → q.again ≡ p.again → Commits kinds s i o t → Appends kinds s t (entries_appended o) → WasCommitted kinds admits s.network i o → GivesFirst kinds admits s p t q
 gave_up kinds admits s p t q i o first called outcomes again commits appends committed = record {
   input = i;
@@ -80,7 +78,7 @@ gave_up kinds admits s p t q i o first called outcomes again commits appends com
 }
 
 -- the first answer was given, and the process went out again
-pub gave_on_again : (kinds : Family) (admits : Card → List ℕ → Option Token → Type 0) (s : MachineView) (p : Placed) (t : MachineView) (q : Placed) (i j : Input) (o : Outcome)
+pub gave_on_again : (kinds : Family) (admits : Admits) (s : MachineView) (p : Placed) (t : MachineView) (q : Placed) (i j : Input) (o : Outcome)
     → p.tasks ≡ i ∷ q.tasks → p.called ≡ q.called + 1 → q.outcomes ≡ p.outcomes ++ o ∷ [] → q.again ≡ p.again ++ j ∷ [] → IsFaithful kinds admits s → IsOut s i → IsFaithful kinds admits t → CommitsOn kinds s i o j t → GivesFirst kinds admits s p t q
 gave_on_again kinds admits s p t q i j o first called outcomes again before out after on =
     let same = commits_network kinds s i o on.between on.commits in
@@ -102,7 +100,7 @@ gave_on_again kinds admits s p t q i j o first called outcomes again before out 
     }
 
 -- what holds after answers were given
-pub record GaveSome (kinds : Family) (admits : Card → List ℕ → Option Token → Type 0) (s : MachineView) (tasks : List Input) (t : MachineView) (q : Placed) (called : ℕ) : Type 0 where
+pub record GaveSome (kinds : Family) (admits : Admits) (s : MachineView) (tasks : List Input) (t : MachineView) (q : Placed) (called : ℕ) : Type 0 where
   pub machine : Gives kinds s tasks q.outcomes q.again t q.tasks
   pub network : t.network ≡ s.network
   pub committed : WereCommitted kinds admits s.network tasks q.outcomes q.tasks
@@ -111,7 +109,7 @@ pub record GaveSome (kinds : Family) (admits : Card → List ℕ → Option Toke
   pub count : length q.tasks + length q.outcomes ≡ length tasks
 
 -- holds after one more
-pub gives_first : (kinds : Family) (admits : Card → List ℕ → Option Token → Type 0) (s : MachineView) (tasks : List Input) (m : MachineView) (p : Placed) (called : ℕ) (t : MachineView) (q : Placed) → GaveSome kinds admits s tasks m p called → GivesFirst kinds admits m p t q
+pub gives_first : (kinds : Family) (admits : Admits) (s : MachineView) (tasks : List Input) (m : MachineView) (p : Placed) (called : ℕ) (t : MachineView) (q : Placed) → GaveSome kinds admits s tasks m p called → GivesFirst kinds admits m p t q
     → GaveSome kinds admits s tasks t q called
 gives_first kinds admits s tasks m p called t q before one =
     let gives : Gives kinds s tasks p.outcomes p.again m (one.input ∷ q.tasks) = subst (λ (l : List Input). Gives kinds s tasks p.outcomes p.again m l) one.first before.machine in

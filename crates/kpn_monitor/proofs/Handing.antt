@@ -7,10 +7,8 @@ use Rattle.std.specs.List.{All, sum_by}
 use Rattle.std.proofs.lemmas.List.Sums.{sum_by-cons}
 use Rattle.std.proofs.lemmas.List.Elements.{All-append}
 use Rattle.kpn_model.specs.declared.history.End.{End}
-use Rattle.kpn_model.specs.declared.token.Token.{Token}
-use Rattle.kpn_model.specs.declared.kinds.Card.{Card}
 use Rattle.kpn_model.specs.declared.kinds.Answer.{Answer}
-use Rattle.kpn_model.specs.Network.{Family, Network}
+use Rattle.kpn_model.specs.Network.{Family, Network, Admits}
 use Rattle.kpn_body.specs.Input.{Input, answer_to}
 use Rattle.kpn_commit.specs.declared.outcome.Outcome.{Outcome}
 use Rattle.kpn_commit.specs.declared.outcome.Outcome.TheVariants.{Done, Parked, LaidBack}
@@ -64,7 +62,7 @@ gives_more kinds s [] (p ∷ outcomes) again m i left o n more t all one appends
 gives_more kinds s (j ∷ tasks) (p ∷ outcomes) again m i left o n more t all one appends out =
     (all.0, all.1, all.2, all.3, all.4 ++ more, out_again all.0 again all.3 all.4 more all.5, gives_more kinds all.3 tasks outcomes all.4 m i left o n more t all.6 one appends out)
 
-pub committed_more : (kinds : Family) (admits : Card → List ℕ → Option Token → Type 0) (net : Network) (tasks : List Input) (outcomes : List Outcome) (i : Input) (left : List Input) (o : Outcome)
+pub committed_more : (kinds : Family) (admits : Admits) (net : Network) (tasks : List Input) (outcomes : List Outcome) (i : Input) (left : List Input) (o : Outcome)
     → WereCommitted kinds admits net tasks outcomes (i ∷ left) → WasCommitted kinds admits net i o → WereCommitted kinds admits net tasks (outcomes ++ o ∷ []) left
 committed_more kinds admits net [] [] i left o all one = absurd (let e = all in cc)
 committed_more kinds admits net (j ∷ tasks) [] i left o all one = subst (λ (l : List Input). WereCommitted kinds admits net l (o ∷ []) left) all (one, refl)

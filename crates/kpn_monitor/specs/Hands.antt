@@ -1,11 +1,9 @@
 -- Several tasks and their answers, one after the other.
-use Rattle.std.specs.Prelude.{◌≡◌, ◌⊎◌, ℕ, ◌+◌, ◌<◌, ◌≤◌, Bool, List, [], ◌∷◌, ◌++◌, Option, set}
+use Rattle.std.specs.Prelude.{◌≡◌, ◌⊎◌, ℕ, ◌+◌, ◌<◌, ◌≤◌, Bool, List, [], ◌∷◌, ◌++◌, set}
 use Rattle.std.specs.List.{All}
-use Rattle.kpn_model.specs.declared.token.Token.{Token}
-use Rattle.kpn_model.specs.declared.kinds.Card.{Card}
 use Rattle.kpn_model.specs.declared.kinds.Answer.{Answer}
 use Rattle.kpn_model.specs.declared.history.End.{End}
-use Rattle.kpn_model.specs.Network.{Family, Network}
+use Rattle.kpn_model.specs.Network.{Family, Network, Admits}
 use Rattle.kpn_body.specs.Input.{Input, answer_to}
 use Rattle.kpn_state.specs.declared.standing.Standing.TheVariants.{Ready}
 use Rattle.kpn_commit.specs.declared.outcome.Outcome.{Outcome}
@@ -52,18 +50,18 @@ abbrev pub GivesBack : Family → MachineView → List Input → List Outcome �
 GivesBack kinds s tasks outcomes t left = (m : MachineView) × (again : List Input) × Gives kinds s tasks outcomes again m left × TakesBackAll m again t
 
 -- the answers to the first tasks were committed, with these outcomes; `left` remain
-abbrev pub WereCommitted : Family → (Card → List ℕ → Option Token → Type 0) → Network → List Input → List Outcome → List Input → Type 0
+abbrev pub WereCommitted : Family → Admits → Network → List Input → List Outcome → List Input → Type 0
 WereCommitted kinds admits net tasks [] left = left ≡ tasks
 WereCommitted kinds admits net [] (o ∷ outcomes) left = ⊥
 WereCommitted kinds admits net (i ∷ tasks) (o ∷ outcomes) left = WasCommitted kinds admits net i o × WereCommitted kinds admits net tasks outcomes left
 
 -- more tasks go out, behind those in a hand; all were taken if those were
-pub record Deals (kinds : Family) (admits : Card → List ℕ → Option Token → Type 0) (net : Network) (s : MachineView) (old : List Input) (t : MachineView) (new : List Input) : Type 0 where
+pub record Deals (kinds : Family) (admits : Admits) (net : Network) (s : MachineView) (old : List Input) (t : MachineView) (new : List Input) : Type 0 where
   pub out : (more : List Input) × (new ≡ old ++ more) × TakesOutAll s more t
   pub taken : All (WasTaken kinds admits net) old → All (WasTaken kinds admits net) new
 
 -- the machine takes this answer with this outcome, and the seat's share grows by the new entries
-pub record CommitsAnswer (kinds : Family) (admits : Card → List ℕ → Option Token → Type 0) (net : Network) (s : MachineView) (old : Shares) (i : Input) (t : MachineView) (new : Shares) (o : Outcome) : Type 0 where
+pub record CommitsAnswer (kinds : Family) (admits : Admits) (net : Network) (s : MachineView) (old : Shares) (i : Input) (t : MachineView) (new : Shares) (o : Outcome) : Type 0 where
   pub commits : Commits kinds s i o t
   pub appends : Appends kinds s t (entries_appended o)
   pub seat : new ≡ record old { entries = old.entries + entries_appended o }
@@ -76,7 +74,7 @@ answers_of Nowhere = 0
 answers_of (Over e) = 0
 
 -- asked in place at most this many times, a machine of this network went so, and the seat with it
-pub record AsksInPlace (kinds : Family) (admits : Card → List ℕ → Option Token → Type 0) (net : Network) (most : ℕ) (old new : Shares) (went : Went) : Type 0 where
+pub record AsksInPlace (kinds : Family) (admits : Admits) (net : Network) (most : ℕ) (old new : Shares) (went : Went) : Type 0 where
   pub parts : new.parts ≡ old.parts
   pub on : (n : ℕ) (w : Bool) → went ≡ On n w → (0 < n) × (n ≤ most) × (new.overs ≡ old.overs)
   pub nowhere : went ≡ Nowhere → new ≡ old

@@ -1,10 +1,8 @@
 -- Tasks in places, some of them free.
 use Rattle.std.specs.Prelude.{◌≡◌, ℕ, ◌+◌, ◌<◌, ◌≤◌, List, [], ◌∷◌, ◌++◌, Option, Some, None, length, drop, take, slice_get}
 use Rattle.std.specs.List.{All}
-use Rattle.kpn_model.specs.declared.token.Token.{Token}
-use Rattle.kpn_model.specs.declared.kinds.Card.{Card}
 use Rattle.kpn_model.specs.declared.kinds.Answer.{Answer}
-use Rattle.kpn_model.specs.Network.{Family}
+use Rattle.kpn_model.specs.Network.{Family, Admits}
 use Rattle.kpn_body.specs.Input.{Input}
 use Rattle.kpn_commit.specs.declared.outcome.Outcome.{Outcome}
 use Rattle.kpn_machine.specs.MachineView.{MachineView, IsOut}
@@ -43,7 +41,7 @@ pub record HasFirst (s : MachineView) (p : Placed) : Type 0 where
   pub room : length p.outcomes < 64
 
 -- the first answer was given to a machine; its process may have gone out again
-pub record GivesFirst (kinds : Family) (admits : Card → List ℕ → Option Token → Type 0) (s : MachineView) (p : Placed) (t : MachineView) (q : Placed) : Type 0 where
+pub record GivesFirst (kinds : Family) (admits : Admits) (s : MachineView) (p : Placed) (t : MachineView) (q : Placed) : Type 0 where
   pub input : Input
   pub outcome : Outcome
   pub between : MachineView

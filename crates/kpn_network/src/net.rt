@@ -1,5 +1,5 @@
 //! Networks.
-ghost use Rattle.std.specs.Prelude.{◌≡◌, ◌<◌, IfOk, IfSome, Some, length, slice_get, option_map};
+ghost use Rattle.std.specs.Prelude.{◌≡◌, ◌<◌, IfOk, IfSome, IsSome, Some, length, slice_get, option_map};
 ghost use Rattle.kpn_model.specs.Network.{card_of, channel_of, in_of, number_of_channel, out_of};
 ghost use Rattle.kpn_model.specs.Valid.{IsValid};
 ghost use Rattle.kpn_network.specs.Parts.{network_of};
@@ -115,7 +115,8 @@ impl<K: Kinds> Net<K> {
     /// Returns the card of process `p`, which has a signature.
     pub fn card(&self, p: usize) -> Card
         requires { p < length self.now.processes }
-        ensures { result ≡ card_of self.now p }
+        ensures is { result ≡ card_of self.now p }
+        ensures signed { IsSome (K.signature result) }
     {
         self.processes[p].card
     }
@@ -162,13 +163,15 @@ impl<K: Kinds> Net<K> {
         self.channels.iter().position(|c| c.name.as_str() == name)
     }
 
-    /// Returns the two ends of channel `c`. Both ports exist.
+    /// Returns the two ends of channel `c`: ports of processes of this network.
     pub fn ends(&self, c: usize) -> Ends
         requires { c < length self.now.channels }
         ensures writer { result.writer ≡ (channel_of self.now c).writer }
         ensures out { result.out ≡ (channel_of self.now c).out }
         ensures reader { result.reader ≡ (channel_of self.now c).reader }
         ensures input { result.input ≡ (channel_of self.now c).input }
+        ensures writes { result.writer < length self.now.processes }
+        ensures reads { result.reader < length self.now.processes }
     {
         let channel = &self.channels[c];
         Ends {

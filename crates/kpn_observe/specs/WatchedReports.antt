@@ -1,9 +1,8 @@
 -- The end and the report of a watched run.
-use Rattle.std.specs.Prelude.{◌≡◌, ℕ, List, Option, Some, map}
-use Rattle.kpn_model.specs.declared.token.Token.{Token}
+use Rattle.std.specs.Prelude.{◌≡◌, List, Option, Some, map}
 use Rattle.kpn_model.specs.declared.kinds.Card.{Card}
 use Rattle.kpn_model.specs.declared.history.End.{End}
-use Rattle.kpn_model.specs.Network.{Family, Network}
+use Rattle.kpn_model.specs.Network.{Family, Network, Admits}
 use Rattle.kpn_machine.specs.declared.opening.OpenFault.{OpenFault}
 use Rattle.kpn_machine.specs.declared.opening.OpenFault.TheVariants.{Memory}
 use Rattle.kpn_machine.specs.Opening.{cards_of}
@@ -20,7 +19,7 @@ abbrev pub EndSparesBudget : Family → Network → Option End → Type 0
 EndSparesBudget kinds net end = (cause : End) → end ≡ Some cause → SparesBudget kinds net cause
 
 -- all that is promised of a watched run of this network, over or not
-pub record IsWatchedRun (kinds : Family) (admits : Card → List ℕ → Option Token → Type 0) (net : Network) (a : ClosedView) : Type 0 where
+pub record IsWatchedRun (kinds : Family) (admits : Admits) (net : Network) (a : ClosedView) : Type 0 where
   pub closed : IsClosed kinds admits net a
   pub budget : EndSparesBudget kinds net a.machine.end
   pub laws : KeepsLaws kinds net a.machine

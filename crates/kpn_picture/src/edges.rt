@@ -6,7 +6,7 @@ ghost use Rattle.kpn_picture.specs.Picture.{arrow, capacity_text, capacity_part,
 
 use crate::looks::{edge_look, link_part, row_part, sort_part};
 use crate::picture::Left;
-use crate::points::{ends_of, has_name_of_point, is_point};
+use crate::points::{has_name_of_point, is_point};
 use crate::rows::{has_rows, stays};
 use crate::titles::Titled;
 use kpn_model::{Kinds, Token};
@@ -136,7 +136,7 @@ fn form_of<K: Titled>(net: &Net<K>, has_rows: bool, c: usize) -> EdgeForm
     requires { c < length net.now.channels }
     ensures { result ≡ form_of net.now K.title has_rows c }
 {
-    let ends = ends_of(net, c);
+    let ends = net.ends(c);
     EdgeForm {
         has_rows,
         from_point: is_point(net, ends.writer),

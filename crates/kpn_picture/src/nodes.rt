@@ -1,7 +1,6 @@
 //! Processes, as boxes, or as points where channels branch.
 ghost use Rattle.std.specs.Prelude.{◌≡◌, ◌++◌, ◌<◌, [], OnOk, IsSome, length, string_bytes};
 ghost use Rattle.std.specs.Option.{option_map_or};
-ghost use Rattle.kpn_model.specs.Network.{card_of};
 ghost use Rattle.kpn_model.specs.texts.Reports.{lines_upto};
 ghost use Rattle.kpn_picture.specs.Titles.{below};
 ghost use Rattle.kpn_picture.specs.Picture.{argument_part, box_opening, box_title, kind_text, place_label, node_line};
@@ -88,16 +87,6 @@ fn push_place<K: Kinds>(
     }
 }
 
-/// Returns the card of a process, which has a signature.
-pub(crate) fn card<K: Kinds>(net: &Net<K>, p: usize) -> Card
-    requires { p < length net.now.processes }
-    ensures is { result ≡ card_of net.now p }
-    ensures signed { IsSome (K.signature result) }
-{
-    let _valid = net.processes();
-    net.card(p)
-}
-
 fn push_opening(out: &mut String, name: &str) -> Result<(), AllocError>
     ensures { OnOk result (string_bytes out.new ≡ string_bytes out.old ++ box_opening name.now) }
 {
@@ -121,7 +110,7 @@ fn push_process<K: Titled>(
         return push_point(out, name, look);
     }
     push_opening(out, name)?;
-    push_box_title::<K>(out, &card(net, p), title_at(titles, p))?;
+    push_box_title::<K>(out, &net.card(p), title_at(titles, p))?;
     push_place(out, net, place)?;
     push_closing(out, look)?;
     Ok(())

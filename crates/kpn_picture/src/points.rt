@@ -1,14 +1,12 @@
 //! The points at which channels branch.
 ghost use Rattle.std.specs.Prelude.{◌≡◌, ◌<◌, ◌++◌, false, OnOk, length, string_bytes};
 ghost use Rattle.std.specs.Option.{option_map_or};
-ghost use Rattle.kpn_model.specs.Network.{channel_of};
 ghost use Rattle.kpn_picture.specs.Titles.{name_of};
 ghost use Rattle.kpn_picture.specs.Picture.{has_name_of, has_name_of_point, is_copy, is_point, point_line, point_opening};
 
 use crate::looks::push_closing;
-use crate::nodes::card;
 use crate::titles::Titled;
-use kpn_model::{Ends, Kinds};
+use kpn_model::Kinds;
 use kpn_network::Net;
 use kpn_network::names::{channel_name, process_name};
 use std::alloc::AllocError;
@@ -19,7 +17,7 @@ pub(crate) fn is_point<K: Titled>(net: &Net<K>, p: usize) -> bool
     requires { p < length net.now.processes }
     ensures { result ≡ is_point net.now K.title p }
 {
-    let title = K::title(&card(net, p));
+    let title = K::title(&net.card(p));
     let names_channel = names_one(net, p, net.in_of(p, 0)) || names_one(net, p, net.out_of(p, 0));
     is_copy(title.word, title.number) && names_channel
 }
@@ -47,21 +45,9 @@ pub(crate) fn has_name_of_point<K: Titled>(net: &Net<K>, c: usize) -> bool
     requires { c < length net.now.channels }
     ensures { result ≡ has_name_of_point net.now K.title c }
 {
-    let ends = ends_of(net, c);
+    let ends = net.ends(c);
     is_point(net, ends.writer) && has_name_of(net, ends.writer, c)
         || is_point(net, ends.reader) && has_name_of(net, ends.reader, c)
-}
-
-/// Returns the two ends of a channel, which are processes.
-pub(crate) fn ends_of<K: Kinds>(net: &Net<K>, c: usize) -> Ends
-    requires { c < length net.now.channels }
-    ensures writer { result.writer ≡ (channel_of net.now c).writer }
-    ensures reader { result.reader ≡ (channel_of net.now c).reader }
-    ensures writes { result.writer < length net.now.processes }
-    ensures reads { result.reader < length net.now.processes }
-{
-    net.assure_valid();
-    net.ends(c)
 }
 
 fn has_name_of<K: Kinds>(net: &Net<K>, p: usize, c: usize) -> bool

@@ -1,13 +1,11 @@
 -- The report of a run, and what it says of other runs.
 use Rattle.std.proofs.Common.{◌≡◌, ◌≢◌, [], get_or, ℕ, true, List, Option, Some, length, refl, sym, ap, ◌∙◌, subst}
 use Rattle.std.proofs.Math.Path.{fun_ext}
-use Rattle.kpn_model.specs.declared.token.Token.{Token}
-use Rattle.kpn_model.specs.declared.kinds.Card.{Card}
 use Rattle.kpn_model.specs.declared.history.Entry.{Entry}
 use Rattle.kpn_model.specs.declared.history.End.{End}
 use Rattle.kpn_model.specs.declared.history.End.TheVariants.{Terminated, Deadlock, Ceiling, Budget, Memory}
 use Rattle.kpn_model.specs.declared.history.Place.{Place}
-use Rattle.kpn_model.specs.Network.{Family, Network, resized}
+use Rattle.kpn_model.specs.Network.{Family, Network, resized, Admits}
 use Rattle.kpn_model.specs.Semantics.{State, wants}
 use Rattle.kpn_model.specs.Endings.{IsNatural, IsOver, MayEnd, IsFinal}
 use Rattle.kpn_model.specs.texts.Reports.{has_report}
@@ -32,7 +30,7 @@ not_budget Memory has e = cc
 
 -- if a run came to its own end, each process wants what it answered when it was parked
 pub at_rest :
-    (kinds : Family) (admits : Card → List ℕ → Option Token → Type 0) (s : MachineView) (cause : End) → IsFaithful kinds admits s → s.end ≡ Some cause → has_report cause ≡ true
+    (kinds : Family) (admits : Admits) (s : MachineView) (cause : End) → IsFaithful kinds admits s → s.end ≡ Some cause → has_report cause ≡ true
     → each_process s.network (λ p. place_of s.network p (parked_answer (standing s.standings p))) ≡ each_process s.network (λ p. place_of s.network p (wants kinds s.network s.state p))
 at_rest kinds admits s cause faithful ended has =
     let same : (λ (p : ℕ). place_of s.network p (parked_answer (standing s.standings p))) ≡ (λ (p : ℕ). place_of s.network p (wants kinds s.network s.state p)) = fun_ext (λ p. ap (place_of s.network p) (sym (faithful.wanted p (idle_at s.standings p (faithful.none_busy cause ended (not_budget cause has)))))) in
@@ -40,7 +38,7 @@ at_rest kinds admits s cause faithful ended has =
 
 -- the report of a run, given where it left each process
 pub own_report :
-    (kinds : Family) (admits : Card → List ℕ → Option Token → Type 0) (s : MachineView) (cause : End) (places : List Place) (detail : Option Detail) → IsFaithful kinds admits s → s.end ≡ Some cause
+    (kinds : Family) (admits : Admits) (s : MachineView) (cause : End) (places : List Place) (detail : Option Detail) → IsFaithful kinds admits s → s.end ≡ Some cause
     → places ≡ each_process s.network (λ p. place_of s.network p (parked_answer (standing s.standings p)))
     → ((has_report cause ≡ true → places ≡ each_process s.network (λ p. place_of s.network p (wants kinds s.network s.state p))) → IsReport kinds s.network cause s.history s.state detail)
     → IsReport kinds s.network cause s.history s.state detail

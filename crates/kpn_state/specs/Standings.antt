@@ -1,12 +1,10 @@
 -- The standings of the processes, and how they fit the state.
 use Rattle.std.specs.Prelude.{◌≡◌, ◌≢◌, ℕ, ◌<◌, ◌≤◌, Bool, true, false, List, Option, Some, None, length, get_or}
-use Rattle.kpn_model.specs.declared.token.Token.{Token}
-use Rattle.kpn_model.specs.declared.kinds.Card.{Card}
 use Rattle.kpn_model.specs.declared.kinds.Answer.{Answer}
 use Rattle.kpn_model.specs.declared.history.Deed.{Deed}
 use Rattle.kpn_model.specs.declared.history.Deed.TheVariants.{Took, Put, Stopped as DidStop}
 use Rattle.kpn_model.specs.declared.history.Status.TheVariants.{Done}
-use Rattle.kpn_model.specs.Network.{Family, Network, channel_of}
+use Rattle.kpn_model.specs.Network.{Family, Network, channel_of, Admits}
 use Rattle.kpn_model.specs.Semantics.{State, status, capacity, wants, IsPossible}
 use Rattle.kpn_model.specs.Valid.{IsWellTyped}
 use Rattle.kpn_state.specs.declared.standing.Standing.{Standing}
@@ -78,7 +76,7 @@ HasChannel net DidStop = Unit {0}
 -- the state and the standings are of the network's size, tokens have their channels' sorts, capacities are at least 1
 -- and at most the ceiling, standings fit statuses, and each parked process wants what it answered and, except for the
 -- spared one, can't do it
-pub record StandingsFit (kinds : Family) (admits : Card → List ℕ → Option Token → Type 0) (net : Network) (spared : Option ℕ) (M : State) (standings : List Standing) : Type 0 where
+pub record StandingsFit (kinds : Family) (admits : Admits) (net : Network) (spared : Option ℕ) (M : State) (standings : List Standing) : Type 0 where
   pub processes : length M.processes ≡ length net.processes
   pub channels : length M.channels ≡ length net.channels
   pub one_each : length standings ≡ length net.processes
