@@ -64,11 +64,14 @@ FewAreSmall = (n : ℕ) → n ≤ 62 → AreSmall n
 -- each run, over or not and from any starting capacities, has written the first ones to the sink
 abbrev pub HammingInRun : Type 0
 HammingInRun =
-    (n k : ℕ) → AreSmall n → (sizes : ℕ → ℕ) (E : List Entry) (M : State) → IsRun standard (resized (hamming n k) sizes) E M
+    (n k : ℕ)
+    → AreSmall n → (sizes : ℕ → ℕ) (E : List Entry) (M : State) → IsRun standard (resized (hamming n k) sizes) E M
     → (m : ℕ) × (m ≤ n) × AreHamming (stream (hamming n k) E 2) m
 
 -- a run that terminates or deadlocks has written all n
 abbrev pub HammingAtEnd : Type 0
 HammingAtEnd =
-    (n k : ℕ) → AreSmall n → (sizes : ℕ → ℕ) (E : List Entry) (M : State) (a : End) → IsFinal standard (resized (hamming n k) sizes) E M a → IsNatural a
+    (n k : ℕ)
+    → AreSmall n → (sizes : ℕ → ℕ) (E : List Entry) (M : State) (a : End)
+    → IsFinal standard (resized (hamming n k) sizes) E M a → IsNatural a
     → AreHamming (stream (hamming n k) E 2) n

@@ -25,4 +25,6 @@ moving_streams xs = on_channels (numbers xs ∷ numbers xs ∷ numbers (0 ∷ xs
 
 -- for any input the network computes the sums of adjacent numbers
 abbrev pub MovingSum : Type 0
-MovingSum = (xs : List ℕ) (from n k : ℕ) → HasStreams standard (moving_sum xs from n k) (moving_streams (arriving xs from n))
+MovingSum =
+    (xs : List ℕ) (from n k : ℕ)
+    → HasStreams standard (moving_sum xs from n k) (moving_streams (arriving xs from n))

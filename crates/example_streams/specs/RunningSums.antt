@@ -26,7 +26,9 @@ running_streams xs =
 
 -- for any input the network computes the sums so far
 abbrev pub RunningSums : Type 0
-RunningSums = (xs : List ℕ) (from n k : ℕ) → HasStreams standard (running_sums xs from n k) (running_streams (arriving xs from n))
+RunningSums =
+    (xs : List ℕ) (from n k : ℕ)
+    → HasStreams standard (running_sums xs from n k) (running_streams (arriving xs from n))
 
 -- each of them is the sum of the numbers up to its place
 abbrev pub SumsAreSums : Type 0

@@ -70,4 +70,6 @@ sieve_streams a b c xs =
 -- for any input each stage passes on what its number doesn't divide, in order; so the last channel gets the
 -- numbers that none of the three divides
 abbrev pub Sieve : Type 0
-Sieve = (a b c : ℕ) (xs : List ℕ) (from n : ℕ) (takes : ℕ → ℕ) → HasStreams standard (sieve a b c xs from n takes) (sieve_streams a b c (arriving xs from n))
+Sieve =
+    (a b c : ℕ) (xs : List ℕ) (from n : ℕ) (takes : ℕ → ℕ)
+    → HasStreams standard (sieve a b c xs from n takes) (sieve_streams a b c (arriving xs from n))

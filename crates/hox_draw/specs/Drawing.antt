@@ -38,7 +38,8 @@ module _ (kinds : Family) (title : ℕ → List ℕ × ℕ) (direction : Directi
     pub run : IsRun kinds net history state
     pub justified : MayEnd kinds net history state cause
     pub text_is : text ≡ run_picture net cause history state
-    pub settled : has_report cause ≡ true → (F : List Entry) (N : State) (b : End) → IsFinal kinds net F N b → text ≡ digest_picture net (digest kinds net b F N)
+    pub settled : has_report cause ≡ true → (F : List Entry) (N : State) (b : End) → IsFinal kinds net F N b
+        → text ≡ digest_picture net (digest kinds net b F N)
 
   abbrev pub DrawsNet : Network → List ℕ → Type 0
   DrawsNet net text = text ≡ picture direction titles title net None [] [] []

@@ -27,7 +27,9 @@ pub record LineRead (names : Naming) (symbols left : List Symbol) (a : Assignmen
 
 -- the code does what the lines say
 abbrev pub Performs : List Instruction → List Line → Type 0
-Performs code lines = (rest : List Instruction) (vs : List ℕ) → run (code ++ rest) (working vs []) ≡ run rest (working (after lines vs) [])
+Performs code lines =
+    (rest : List Instruction) (vs : List ℕ)
+    → run (code ++ rest) (working vs []) ≡ run rest (working (after lines vs) [])
 
 pub record LinesRead (names : Naming) (symbols : List Symbol) (r : Lines) : Type 0 where
   pub lines : List Line

@@ -13,11 +13,14 @@ working vs stack = record { values = vs; stack = stack }
 
 -- the code pushes what the expression is worth, and changes nothing else, whatever follows
 pub record Computes (code : List Instruction) (e : Expression) : Type 0 where
-  pub runs : (rest : List Instruction) (vs stack : List ℕ) → run (code ++ rest) (working vs stack) ≡ run rest (working vs (value e vs ∷ stack))
+  pub runs : (rest : List Instruction) (vs stack : List ℕ)
+      → run (code ++ rest) (working vs stack) ≡ run rest (working vs (value e vs ∷ stack))
 
 -- the instruction does what the operation does with this second word
 abbrev pub StandsFor : Operation → Option ℕ → Instruction → Type 0
-StandsFor op (Some n) i = (vs stack : List ℕ) (x : ℕ) → executed i (working vs (x ∷ stack)) ≡ working vs (applied op x n ∷ stack)
+StandsFor op (Some n) i =
+    (vs stack : List ℕ) (x : ℕ)
+    → executed i (working vs (x ∷ stack)) ≡ working vs (applied op x n ∷ stack)
 StandsFor op None i = ⊥
 
 -- the facts are those of the expression

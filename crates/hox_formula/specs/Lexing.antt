@@ -145,10 +145,14 @@ pub record EndsWord (n : ℕ) (bytes : List ℕ) : Type 0 where
 
 -- bytes up to those that are left spell a symbol, whatever is spelled by what is left
 abbrev pub SpellsOne : List (List ℕ) → List ℕ → List ℕ → Symbol → Type 0
-SpellsOne names bytes left s = (later : List (List ℕ)) (more : List Symbol) → Spells (names ++ later) left more → Spells (names ++ later) bytes (s ∷ more)
+SpellsOne names bytes left s =
+    (later : List (List ℕ)) (more : List Symbol)
+    → Spells (names ++ later) left more → Spells (names ++ later) bytes (s ∷ more)
 
 abbrev pub SpellsSo : List (List ℕ) → List ℕ → List ℕ → List Symbol → Type 0
-SpellsSo names bytes left symbols = (later : List (List ℕ)) (more : List Symbol) → Spells (names ++ later) left more → Spells (names ++ later) bytes (symbols ++ more)
+SpellsSo names bytes left symbols =
+    (later : List (List ℕ)) (more : List Symbol)
+    → Spells (names ++ later) left more → Spells (names ++ later) bytes (symbols ++ more)
 
 abbrev pub Extends : List (List ℕ) → List (List ℕ) → Type 0
 Extends old new = (added : List (List ℕ)) × (new ≡ old ++ added)

@@ -24,7 +24,8 @@ pub record IsRunTold (net : Network) (told : RunReport) : Type 0 where
   pub room : TakesLeastRoom all_kinds net history state
   pub streams : ApproachLeastSolution all_kinds net history state
   pub text_is : string_bytes told.report ≡ report_text all_kinds net told.end history state None
-  pub every : has_report told.end ≡ true → (F : List Entry) (N : State) (b : End) → IsFinal all_kinds net F N b → string_bytes told.report ≡ report_text all_kinds net b F N None
+  pub every : has_report told.end ≡ true → (F : List Entry) (N : State) (b : End) → IsFinal all_kinds net F N b
+      → string_bytes told.report ≡ report_text all_kinds net b F N None
 
 pub record RunsTo (text : List ℕ) (told : RunReport) : Type 0 where
   pub net : Network

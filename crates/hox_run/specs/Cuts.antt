@@ -23,7 +23,8 @@ use Rattle.hox_run.specs.declared.shown.ChannelAs.{ChannelAs}
 -- or the place where it waits
 pub record Leaves (kinds : Family) (net : Network) (M : State) (left : ℕ → Option Place) : Type 0 where
   pub ready : (p : ℕ) → IsEnabled kinds net M p → left p ≡ None
-  pub placed : (p : ℕ) → p < length net.processes → IfSome (left p) (λ place. place ≡ place_of net p (wants kinds net M p))
+  pub placed : (p : ℕ) → p < length net.processes
+      → IfSome (left p) (λ place. place ≡ place_of net p (wants kinds net M p))
 
 -- the place of process p by the standings and the places
 abbrev pub left_at : List Standing → List Place → ℕ → Option Place

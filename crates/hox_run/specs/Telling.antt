@@ -122,4 +122,5 @@ module _ (kinds : Family) (net : Network) where
       pub leaves : Leaves kinds net state left
       pub notes : AreNotes net verdict history left told.notes
       pub whole : verdict ≡ RanDry → is_early cause ≡ true → AreWhole history show × AreWhole history outputs
-      pub settled : has_report cause ≡ true → (F : List Entry) (N : State) (b : End) → IsFinal kinds net F N b → TellsOf b F N verdict
+      pub settled : has_report cause ≡ true → (F : List Entry) (N : State) (b : End) → IsFinal kinds net F N b
+          → TellsOf b F N verdict

@@ -44,7 +44,8 @@ pub record IsTold (layout : Layout) (sort : Sort) (bytes : List ℕ) (told : Tol
 pub record Leads (layout : Layout) (sort : Sort) (text left : List ℕ) (tokens : List Token) (records : ℕ) : Type 0 where
   pub says : (more : List Token) → Say layout sort left more → Say layout sort text (tokens ++ more)
   pub begins : (more : List Token) → Begin layout sort left more → Begin layout sort text (tokens ++ more)
-  pub fails : (number : ℕ) (fault : RecordFault) → Fails layout sort left number fault → Fails layout sort text (records + number) fault
+  pub fails : (number : ℕ) (fault : RecordFault) → Fails layout sort left number fault
+      → Fails layout sort text (records + number) fault
 
 -- the text leads to what is left, if the text is known
 abbrev pub Passes : Layout → Sort → Option (List ℕ) → Option (List ℕ) → List Token → ℕ → Type 0

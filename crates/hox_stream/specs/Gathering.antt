@@ -8,7 +8,9 @@ use Rattle.hox_stream.specs.Cutting.{Leads}
 
 -- the first records of a text have these tokens, one each, whatever comes after it
 abbrev pub LeadsOn : Layout → Sort → List ℕ → List ℕ → List Token → Type 0
-LeadsOn layout sort text left tokens = (on : List ℕ) → Leads layout sort (text ++ on) (left ++ on) tokens (length tokens)
+LeadsOn layout sort text left tokens =
+    (on : List ℕ)
+    → Leads layout sort (text ++ on) (left ++ on) tokens (length tokens)
 
 -- where the first `k` records end
 abbrev pub end_of : List ℕ → ℕ → ℕ

@@ -47,7 +47,8 @@ pub record Writes (p q : OutletView) (tokens : List Token) : Type 0 where
   pub channel : q.channel ≡ p.channel
   pub layout : q.layout ≡ p.layout
   pub unfailed : q.has_failed ≡ false → p.has_failed ≡ false
-  pub written : q.has_failed ≡ false → Appends p.contents q.contents (flat_map (record_text p.layout) (written_of p.layout p.is_misfit tokens))
+  pub written : q.has_failed ≡ false
+      → Appends p.contents q.contents (flat_map (record_text p.layout) (written_of p.layout p.is_misfit tokens))
   pub misfit : q.has_failed ≡ false → q.is_misfit ≡ (p.is_misfit || not (are_written p.layout tokens))
   pub counted : q.has_failed ≡ false → CountsOn p.tokens q.tokens (length (written_of p.layout p.is_misfit tokens))
   pub clipped : q.has_failed ≡ false → CountsOn p.clipped q.clipped (clipped_of p.layout p.is_misfit tokens)

@@ -60,8 +60,10 @@ pub record Serves (kinds : Family) (s t : FlowView) (ins ins_after : List InletV
   pub at_ends : IsAtEnds (is_among s.inputs) (is_among s.outputs) events
   pub as_many_inlets : length ins_after ≡ length ins
   pub as_many_outlets : length after.sinks ≡ length before.sinks
-  pub taken : (k : ℕ) → k < length ins → Takes (inlet_at ins k) (inlet_at ins_after k) (fed events (inlet_at ins k).channel)
-  pub written : (k : ℕ) → k < length before.sinks → Writes (outlet_at before.sinks k) (outlet_at after.sinks k) (drained events (outlet_at before.sinks k).channel)
+  pub taken : (k : ℕ) → k < length ins
+      → Takes (inlet_at ins k) (inlet_at ins_after k) (fed events (inlet_at ins k).channel)
+  pub written : (k : ℕ) → k < length before.sinks
+      → Writes (outlet_at before.sinks k) (outlet_at after.sinks k) (drained events (outlet_at before.sinks k).channel)
   pub kept : (k : ℕ) → k < length ins → length (inlet_at ins_after k).kept ≤ 8192
   pub waiting : (k : ℕ) → k < length before.sinks → length (outlet_at after.sinks k).waiting ≤ 4096
   pub full : List TableView
@@ -69,7 +71,8 @@ pub record Serves (kinds : Family) (s t : FlowView) (ins ins_after : List InletV
   pub as_many_tables : length after.tables ≡ length before.tables
   pub tabled : (k : ℕ) → k < length before.tables → WritesTable (table_at before.tables k) (table_at full k) (λ i. drained events (channel_at (table_at before.tables k) i))
   pub rest : (k : ℕ) → k < length before.tables → EndsTable (table_at full k) (table_at after.tables k)
-  pub columns : (k : ℕ) → k < length before.tables → 0 < length (table_at before.tables k).lanes → (table_at after.tables k).has_failed ≡ false
+  pub columns : (k : ℕ) → k < length before.tables → 0 < length (table_at before.tables k).lanes
+      → (table_at after.tables k).has_failed ≡ false
       → Appends (table_at before.tables k).contents (table_at after.tables k).contents (table_text (table_at before.tables k).table (taken_columns (table_at before.tables k).lanes (drained events)))
   pub told : AreWritten after
   pub ended : IsFinish kinds t ins_after (outs after.sinks full) finish ⊎ IsFinish kinds t ins_after after finish

@@ -30,16 +30,22 @@ channel_at p i = (lane_at p i).head.channel
 
 -- no two sources, and no two sinks, share a channel
 abbrev pub AreInletsApart : List InletView → Type 0
-AreInletsApart ins = (j k : ℕ) → j < length ins → k < length ins → (inlet_at ins j).channel ≡ (inlet_at ins k).channel → j ≡ k
+AreInletsApart ins =
+    (j k : ℕ)
+    → j < length ins → k < length ins → (inlet_at ins j).channel ≡ (inlet_at ins k).channel → j ≡ k
 
 abbrev pub AreOutletsApart : List OutletView → Type 0
-AreOutletsApart outs = (j k : ℕ) → j < length outs → k < length outs → (outlet_at outs j).channel ≡ (outlet_at outs k).channel → j ≡ k
+AreOutletsApart outs =
+    (j k : ℕ)
+    → j < length outs → k < length outs → (outlet_at outs j).channel ≡ (outlet_at outs k).channel → j ≡ k
 
 -- no two sinks or columns share a channel
 pub record AreOutsApart (outs : OutsView) : Type 0 where
   pub sinks : AreOutletsApart outs.sinks
-  pub both : (j k i : ℕ) → j < length outs.sinks → k < length outs.tables → i < length (table_at outs.tables k).lanes → (outlet_at outs.sinks j).channel ≢ channel_at (table_at outs.tables k) i
-  pub tables : (j k h i : ℕ) → j < length outs.tables → k < length outs.tables → h < length (table_at outs.tables j).lanes → i < length (table_at outs.tables k).lanes
+  pub both : (j k i : ℕ) → j < length outs.sinks → k < length outs.tables → i < length (table_at outs.tables k).lanes
+      → (outlet_at outs.sinks j).channel ≢ channel_at (table_at outs.tables k) i
+  pub tables : (j k h i : ℕ) → j < length outs.tables → k < length outs.tables
+      → h < length (table_at outs.tables j).lanes → i < length (table_at outs.tables k).lanes
       → channel_at (table_at outs.tables j) h ≡ channel_at (table_at outs.tables k) i → (j ≡ k) × (h ≡ i)
 
 -- events at its ends lead the flow on. The records read from a source were fed into its channel; the tokens
@@ -52,14 +58,18 @@ pub record Streams (kinds : Family) (s t : FlowView) (ins ins_after : List Inlet
   pub as_many_inlets : length ins_after ≡ length ins
   pub as_many_outlets : length outs_after.sinks ≡ length outs.sinks
   pub as_many_tables : length outs_after.tables ≡ length outs.tables
-  pub taken : AreInletsApart ins → (k : ℕ) → k < length ins → Takes (inlet_at ins k) (inlet_at ins_after k) (fed events (inlet_at ins k).channel)
-  pub written : AreOutsApart outs → (k : ℕ) → k < length outs.sinks → Writes (outlet_at outs.sinks k) (outlet_at outs_after.sinks k) (drained events (outlet_at outs.sinks k).channel)
+  pub taken : AreInletsApart ins → (k : ℕ) → k < length ins
+      → Takes (inlet_at ins k) (inlet_at ins_after k) (fed events (inlet_at ins k).channel)
+  pub written : AreOutsApart outs → (k : ℕ) → k < length outs.sinks
+      → Writes (outlet_at outs.sinks k) (outlet_at outs_after.sinks k) (drained events (outlet_at outs.sinks k).channel)
   pub tabled : AreOutsApart outs → (k : ℕ) → k < length outs.tables → WritesTable (table_at outs.tables k) (table_at outs_after.tables k) (λ i. drained events (channel_at (table_at outs.tables k) i))
 
 -- nothing waits to be written to a sink, unless a write to it failed. Tokens may wait for their rows
 pub record AreWritten (outs : OutsView) : Type 0 where
-  pub sinks : (k : ℕ) → k < length outs.sinks → (outlet_at outs.sinks k).has_failed ≡ false → (outlet_at outs.sinks k).waiting ≡ []
-  pub tables : (k : ℕ) → k < length outs.tables → (table_at outs.tables k).has_failed ≡ false → (table_at outs.tables k).waiting ≡ []
+  pub sinks : (k : ℕ) → k < length outs.sinks → (outlet_at outs.sinks k).has_failed ≡ false
+      → (outlet_at outs.sinks k).waiting ≡ []
+  pub tables : (k : ℕ) → k < length outs.tables → (table_at outs.tables k).has_failed ≡ false
+      → (table_at outs.tables k).waiting ≡ []
 
 -- a failed sink stays failed; so does a misfit
 pub record FaultsStay (p q : OutletView) : Type 0 where
@@ -109,14 +119,16 @@ IsFinish kinds s ins outs Cut = Unit {0}
 module _ (kinds : Family) (s t : FlowView) where
   -- tokens were moved from channels to sinks of one channel, if there were any, or the stream ends; nothing else happened
   pub record TellsSinks (before after : List OutletView) (result : Result Bool StreamFinish) : Type 0 where
-    pub streams : (ins : List InletView) (tables : List TableView) → Streams kinds s t ins ins (outs before tables) (outs after tables)
+    pub streams : (ins : List InletView) (tables : List TableView)
+        → Streams kinds s t ins ins (outs before tables) (outs after tables)
     pub same : IsSameFlow s t
     pub none : result ≡ Ok false → t.state ≡ s.state
     pub finish : IfErr result (λ f. (ins : List InletView) (tables : List TableView) → IsFinish kinds t ins (outs after tables) f)
 
   -- the same of tables, which follow `first` sinks
   pub record TellsTables (before after : List TableView) (first : ℕ) (result : Result Bool StreamFinish) : Type 0 where
-    pub streams : (ins : List InletView) (sinks : List OutletView) → Streams kinds s t ins ins (outs sinks before) (outs sinks after)
+    pub streams : (ins : List InletView) (sinks : List OutletView)
+        → Streams kinds s t ins ins (outs sinks before) (outs sinks after)
     pub same : IsSameFlow s t
     pub none : result ≡ Ok false → t.state ≡ s.state
     pub finish : IfErr result (λ f. (ins : List InletView) (sinks : List OutletView) → length sinks ≡ first → IsFinish kinds t ins (outs sinks after) f)

@@ -75,7 +75,8 @@ pub record WritesTable (p q : TableView) (tokens : ℕ → List Token) : Type 0 
   pub rows : List (List Cell)
   pub full : AllByRecursion (IsFullRow (heads_of p.lanes)) rows
   pub written : q.has_failed ≡ false → Appends p.contents q.contents (flat_map (row_text p.table) rows)
-  pub lanes : q.has_failed ≡ false → (i : ℕ) → i < length p.lanes → WritesLane rows i (lane_at p i) (lane_at q i) (tokens i)
+  pub lanes : q.has_failed ≡ false → (i : ℕ) → i < length p.lanes
+      → WritesLane rows i (lane_at p i) (lane_at q i) (tokens i)
   pub whole : q.has_failed ≡ false → shortest p.lanes ≡ 0 → shortest q.lanes ≡ 0
   pub held : length p.waiting ≤ 4096 → length q.waiting ≤ 4096
 

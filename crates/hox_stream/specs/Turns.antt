@@ -29,7 +29,9 @@ abbrev pub PassesTurn : List InletView → List InletView → ℕ → ℕ → Ty
 PassesTurn ins after n next = ((s : FlowView) × TakesTurn s ins after n next) ⊎ ((after ≡ ins) × (next ≡ n))
 
 abbrev pub AreReadIfWanted : List InletView → List InletView → Type 0
-AreReadIfWanted ins after = (k : ℕ) → k < length ins → wants_more (inlet_at ins k) ≡ false → IsNotRead (inlet_at ins k) (inlet_at after k)
+AreReadIfWanted ins after =
+    (k : ℕ)
+    → k < length ins → wants_more (inlet_at ins k) ≡ false → IsNotRead (inlet_at ins k) (inlet_at after k)
 
 -- no source is read while output waits
 abbrev pub AreReadUnheld : List InletView → List InletView → OutsView → Type 0

@@ -18,30 +18,6 @@ use Rattle.kpn_commit.specs.Waiting.{AreWaiting}
 use Rattle.kpn_commit.specs.Reactions.{Reacts}
 use Rattle.kpn_commit.specs.Resolving.{Resolves}
 
--- p, ready or out, has answered what it wants, and there is room for two entries
-pub record HasAnswered {H : Type 0} (kinds : Family) (admits : Admits) (net : Network) (core : Core H) (p : ℕ) (a : Answer) : Type 0 where
-  pub coherent : IsCoherent kinds admits net core
-  pub process : p < length core.standings
-  pub wants : wants kinds net core.store.state p ≡ Some a
-  pub busy : is_busy (standing core.standings p) ≡ true
-  pub room : length core.store.history + 2 ≤ core.store.limit
-
--- the answer has its effect, and no parked process can continue
-pub record ReactsTo {H : Type 0} (kinds : Family) (admits : Admits) (net : Network) (core : Core H) (p : ℕ) (a : Answer) (reaction : Reaction) (moved : Core H) : Type 0 where
-  pub reacts : Reacts kinds net core.store core.standings p a reaction moved.store moved.standings
-  pub coherent : IsCoherent kinds admits net moved
-
--- p, which was parked, does what it answered, and waits no more
-pub record Resumes {H : Type 0} (kinds : Family) (admits : Admits) (net : Network) (core : Core H) (p : ℕ) (moved : Core H) : Type 0 where
-  pub wanted : Answer
-  pub parked : standing core.standings p ≡ Parked wanted
-  pub deed : Deed
-  pub is_deed : IsDeed kinds net core.store.state p wanted.act deed
-  pub entry : moved.store ≡ more core.store (after_deed kinds net core.store.state p wanted.next deed) (Did p deed)
-  pub moves : moved.standings ≡ set core.standings p (standing_after deed)
-  pub keeps : StandingsFit kinds admits net (partner net deed) moved.store.state moved.standings
-  pub waiting : AreWaiting net moved.store.state moved.standings moved.waiting
-
 abbrev pub made_ready : {H : Type 0} → Core H → ℕ → Core H
 made_ready core p = record core { standings = set core.standings p Ready }
 
@@ -50,19 +26,44 @@ pub record KeepsStanding (standings moved : List Standing) (p : ℕ) : Type 0 wh
   pub stays : standing moved p ≡ standing standings p
   pub many : length moved ≡ length standings
 
--- no process is ready or out, and there is room for a growth and a put
-pub record IsIdle {H : Type 0} (kinds : Family) (admits : Admits) (net : Network) (core : Core H) : Type 0 where
-  pub coherent : IsCoherent kinds admits net core
-  pub idle : list_any is_busy core.standings ≡ false
-  pub room : length core.store.history + 2 ≤ core.store.limit
+module _ {H : Type 0} (kinds : Family) (admits : Admits) (net : Network) where
+  -- p, ready or out, has answered what it wants, and there is room for two entries
+  pub record HasAnswered (core : Core H) (p : ℕ) (a : Answer) : Type 0 where
+    pub coherent : IsCoherent kinds admits net core
+    pub process : p < length core.standings
+    pub wants : wants kinds net core.store.state p ≡ Some a
+    pub busy : is_busy (standing core.standings p) ≡ true
+    pub room : length core.store.history + 2 ≤ core.store.limit
 
--- the run goes on or ends as it must, and no parked process can continue
-pub record ResolvesTo {H : Type 0} (kinds : Family) (admits : Admits) (net : Network) (core : Core H) (resolution : Resolution) (moved : Core H) : Type 0 where
-  pub resolves : Resolves kinds net core.store core.standings resolution moved.store moved.standings
-  pub coherent : IsCoherent kinds admits net moved
+  -- the answer has its effect, and no parked process can continue
+  pub record ReactsTo (core : Core H) (p : ℕ) (a : Answer) (reaction : Reaction) (moved : Core H) : Type 0 where
+    pub reacts : Reacts kinds net core.store core.standings p a reaction moved.store moved.standings
+    pub coherent : IsCoherent kinds admits net moved
 
--- parked processes become ready until none can continue, and no process is sent out
-pub record OnlyWakes {H : Type 0} (kinds : Family) (admits : Admits) (net : Network) (core moved : Core H) : Type 0 where
-  pub store : moved.store ≡ core.store
-  pub coherent : IsCoherent kinds admits net moved
-  pub none_sent : (p : ℕ) → standing moved.standings p ≡ Out → standing core.standings p ≡ Out
+  -- p, which was parked, does what it answered, and waits no more
+  pub record Resumes (core : Core H) (p : ℕ) (moved : Core H) : Type 0 where
+    pub wanted : Answer
+    pub parked : standing core.standings p ≡ Parked wanted
+    pub deed : Deed
+    pub is_deed : IsDeed kinds net core.store.state p wanted.act deed
+    pub entry : moved.store ≡ more core.store (after_deed kinds net core.store.state p wanted.next deed) (Did p deed)
+    pub moves : moved.standings ≡ set core.standings p (standing_after deed)
+    pub keeps : StandingsFit kinds admits net (partner net deed) moved.store.state moved.standings
+    pub waiting : AreWaiting net moved.store.state moved.standings moved.waiting
+
+  -- no process is ready or out, and there is room for a growth and a put
+  pub record IsIdle (core : Core H) : Type 0 where
+    pub coherent : IsCoherent kinds admits net core
+    pub idle : list_any is_busy core.standings ≡ false
+    pub room : length core.store.history + 2 ≤ core.store.limit
+
+  -- the run goes on or ends as it must, and no parked process can continue
+  pub record ResolvesTo (core : Core H) (resolution : Resolution) (moved : Core H) : Type 0 where
+    pub resolves : Resolves kinds net core.store core.standings resolution moved.store moved.standings
+    pub coherent : IsCoherent kinds admits net moved
+
+  -- parked processes become ready until none can continue, and no process is sent out
+  pub record OnlyWakes (core moved : Core H) : Type 0 where
+    pub store : moved.store ≡ core.store
+    pub coherent : IsCoherent kinds admits net moved
+    pub none_sent : (p : ℕ) → standing moved.standings p ≡ Out → standing core.standings p ≡ Out

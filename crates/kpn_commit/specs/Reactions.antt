@@ -21,55 +21,57 @@ pub record HasRoomToAct (net : Network) (s : StateAndHistory) (p : ℕ) : Type 0
   pub channels : length s.state.channels ≡ length net.channels
   pub room : length s.history < s.limit
 
--- p does the act, and the deed is entered
-pub record EntersDeed (kinds : Family) (net : Network) (s : StateAndHistory) (p : ℕ) (act : Act) (next : List ℕ) (d : Deed) (t : StateAndHistory) : Type 0 where
-  pub is_deed : IsDeed kinds net s.state p act d
-  pub entry : t ≡ more s (after_deed kinds net s.state p next d) (Did p d)
+module _ (kinds : Family) (admits : Admits) (net : Network) where
+  -- p wants what it answered, no other parked process can continue, and there is room for one more entry
+  pub record WantsToAct (s : StateAndHistory) (standings : List Standing) (p : ℕ) (a : Answer) : Type 0 where
+    pub keeps : StandingsFit kinds admits net (Some p) s.state standings
+    pub process : p < length standings
+    pub wants : wants kinds net s.state p ≡ Some a
+    pub room : length s.history < s.limit
 
--- p can't do the act, and nothing changes
-pub record IsLeft (kinds : Family) (net : Network) (s : StateAndHistory) (p : ℕ) (act : Act) (t : StateAndHistory) : Type 0 where
-  pub cannot : IsPossible kinds net s.state p act → ⊥
-  pub same : t ≡ s
+  -- p reads or writes as it answered, and would then be ready
+  pub record ActsOn (s : StateAndHistory) (standings : List Standing) (p : ℕ) (a : Answer) (d : Deed) (t : StateAndHistory) : Type 0 where
+    pub is_deed : IsDeed kinds net s.state p a.act d
+    pub entry : t ≡ more s (after_deed kinds net s.state p a.next d) (Did p d)
+    pub ready : standing_after d ≡ Ready
+    pub channel : HasChannel net d
+    pub keeps : StandingsFit kinds admits net (partner net d) t.state (set standings p (standing_after d))
 
--- p wants what it answered, no other parked process can continue, and there is room for one more entry
-pub record WantsToAct (kinds : Family) (admits : Admits) (net : Network) (s : StateAndHistory) (standings : List Standing) (p : ℕ) (a : Answer) : Type 0 where
-  pub keeps : StandingsFit kinds admits net (Some p) s.state standings
-  pub process : p < length standings
-  pub wants : wants kinds net s.state p ≡ Some a
-  pub room : length s.history < s.limit
+module _ (kinds : Family) (net : Network) where
+  -- p does the act, and the deed is entered
+  pub record EntersDeed (s : StateAndHistory) (p : ℕ) (act : Act) (next : List ℕ) (d : Deed) (t : StateAndHistory) : Type 0 where
+    pub is_deed : IsDeed kinds net s.state p act d
+    pub entry : t ≡ more s (after_deed kinds net s.state p next d) (Did p d)
 
--- p reads or writes as it answered, and would then be ready
-pub record ActsOn (kinds : Family) (admits : Admits) (net : Network) (s : StateAndHistory) (standings : List Standing) (p : ℕ) (a : Answer) (d : Deed) (t : StateAndHistory) : Type 0 where
-  pub is_deed : IsDeed kinds net s.state p a.act d
-  pub entry : t ≡ more s (after_deed kinds net s.state p a.next d) (Did p d)
-  pub ready : standing_after d ≡ Ready
-  pub channel : HasChannel net d
-  pub keeps : StandingsFit kinds admits net (partner net d) t.state (set standings p (standing_after d))
+  -- p can't do the act, and nothing changes
+  pub record IsLeft (s : StateAndHistory) (p : ℕ) (act : Act) (t : StateAndHistory) : Type 0 where
+    pub cannot : IsPossible kinds net s.state p act → ⊥
+    pub same : t ≡ s
 
--- the answer is a stop, or p can't do it
-abbrev pub CannotGoOn : Family → Network → State → ℕ → Answer → Type 0
-CannotGoOn kinds net M p a = a.act ≢ Stop → IsPossible kinds net M p a.act → ⊥
+  -- the answer is a stop, or p can't do it
+  abbrev pub CannotGoOn : State → ℕ → Answer → Type 0
+  CannotGoOn M p a = a.act ≢ Stop → IsPossible kinds net M p a.act → ⊥
 
-pub record Acted (kinds : Family) (net : Network) (s : StateAndHistory) (standings : List Standing) (p : ℕ) (d : Deed) (t : StateAndHistory) (moved : List Standing) : Type 0 where
-  pub does : Does kinds net s.state p d t.state
-  pub entry : t ≡ more s t.state (Did p d)
-  pub moves : moved ≡ set standings p (standing_after d)
+  pub record Acted (s : StateAndHistory) (standings : List Standing) (p : ℕ) (d : Deed) (t : StateAndHistory) (moved : List Standing) : Type 0 where
+    pub does : Does kinds net s.state p d t.state
+    pub entry : t ≡ more s t.state (Did p d)
+    pub moves : moved ≡ set standings p (standing_after d)
 
--- p does what it wants, then the parked process at the other end of the channel does
-pub record Handed (kinds : Family) (net : Network) (s : StateAndHistory) (standings : List Standing) (p : ℕ) (t : StateAndHistory) (moved : List Standing) : Type 0 where
-  pub deed : Deed
-  pub between : StateAndHistory
-  pub standings_between : List Standing
-  pub first : Acted kinds net s standings p deed between standings_between
-  pub other : ℕ
-  pub wanted : Answer
-  pub at_other_end : partner net deed ≡ Some other
-  pub parked : standing standings_between other ≡ Parked wanted
-  pub handed : Deed
-  pub second : Acted kinds net between standings_between other handed t moved
+  -- p does what it wants, then the parked process at the other end of the channel does
+  pub record Handed (s : StateAndHistory) (standings : List Standing) (p : ℕ) (t : StateAndHistory) (moved : List Standing) : Type 0 where
+    pub deed : Deed
+    pub between : StateAndHistory
+    pub standings_between : List Standing
+    pub first : Acted s standings p deed between standings_between
+    pub other : ℕ
+    pub wanted : Answer
+    pub at_other_end : partner net deed ≡ Some other
+    pub parked : standing standings_between other ≡ Parked wanted
+    pub handed : Deed
+    pub second : Acted between standings_between other handed t moved
 
--- p answered a, and is parked as it can't do it; or does it; or does it and the partner continues too
-abbrev pub Reacts : Family → Network → StateAndHistory → List Standing → ℕ → Answer → Reaction → StateAndHistory → List Standing → Type 0
-Reacts kinds net s standings p a Waits t moved = (IsEnabled kinds net s.state p → ⊥) × (t ≡ s) × (moved ≡ set standings p (Parked a))
-Reacts kinds net s standings p a Acts t moved = (d : Deed) × Acted kinds net s standings p d t moved
-Reacts kinds net s standings p a HandsOn t moved = Handed kinds net s standings p t moved
+  -- p answered a, and is parked as it can't do it; or does it; or does it and the partner continues too
+  abbrev pub Reacts : StateAndHistory → List Standing → ℕ → Answer → Reaction → StateAndHistory → List Standing → Type 0
+  Reacts s standings p a Waits t moved = (IsEnabled kinds net s.state p → ⊥) × (t ≡ s) × (moved ≡ set standings p (Parked a))
+  Reacts s standings p a Acts t moved = (d : Deed) × Acted s standings p d t moved
+  Reacts s standings p a HandsOn t moved = Handed s standings p t moved

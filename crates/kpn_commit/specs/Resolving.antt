@@ -16,19 +16,20 @@ use Rattle.kpn_commit.specs.declared.resolution.Resolution.TheVariants.{Busy, En
 use Rattle.kpn_state.specs.Standings.{standing, is_busy}
 use Rattle.kpn_commit.specs.Reactions.{Acted}
 
--- a channel grows, and its writer's put follows
-pub record GrowsAndPuts (kinds : Family) (net : Network) (s : StateAndHistory) (standings : List Standing) (t : StateAndHistory) (moved : List Standing) : Type 0 where
-  pub channel : ℕ
-  pub to : ℕ
-  pub grown : State
-  pub grows : Grows kinds net s.state channel to grown
-  pub writer : ℕ
-  pub wanted : Answer
-  pub parked : standing standings writer ≡ Parked wanted
-  pub token : Token
-  pub puts : Acted kinds net (more s grown (Grew channel to)) standings writer (Put channel token) t moved
+module _ (kinds : Family) (net : Network) where
+  -- a channel grows, and its writer's put follows
+  pub record GrowsAndPuts (s : StateAndHistory) (standings : List Standing) (t : StateAndHistory) (moved : List Standing) : Type 0 where
+    pub channel : ℕ
+    pub to : ℕ
+    pub grown : State
+    pub grows : Grows kinds net s.state channel to grown
+    pub writer : ℕ
+    pub wanted : Answer
+    pub parked : standing standings writer ≡ Parked wanted
+    pub token : Token
+    pub puts : Acted kinds net (more s grown (Grew channel to)) standings writer (Put channel token) t moved
 
-abbrev pub Resolves : Family → Network → StateAndHistory → List Standing → Resolution → StateAndHistory → List Standing → Type 0
-Resolves kinds net s standings Busy t moved = (list_any is_busy standings ≡ true) × (t ≡ s) × (moved ≡ standings)
-Resolves kinds net s standings (Ended end) t moved = (list_any is_busy standings ≡ false) × (t ≡ s) × (moved ≡ standings) × NothingGoesOn kinds net s.state end
-Resolves kinds net s standings Enlarged t moved = (list_any is_busy standings ≡ false) × GrowsAndPuts kinds net s standings t moved
+  abbrev pub Resolves : StateAndHistory → List Standing → Resolution → StateAndHistory → List Standing → Type 0
+  Resolves s standings Busy t moved = (list_any is_busy standings ≡ true) × (t ≡ s) × (moved ≡ standings)
+  Resolves s standings (Ended end) t moved = (list_any is_busy standings ≡ false) × (t ≡ s) × (moved ≡ standings) × NothingGoesOn kinds net s.state end
+  Resolves s standings Enlarged t moved = (list_any is_busy standings ≡ false) × GrowsAndPuts s standings t moved

@@ -37,7 +37,9 @@ FilterAdmits kept (Some (Flag f)) = ⊥
 
 -- P holds of each card of numbers that fit
 abbrev pub OfEachCard : (Card → Type 0) → Type 0
-OfEachCard P = (kind x y z : ℕ) → kind < 2 ^ 16 → IsWord x → IsWord y → IsWord z → P (record { kind = kind; args = x ∷ y ∷ z ∷ [] })
+OfEachCard P =
+    (kind x y z : ℕ)
+    → kind < 2 ^ 16 → IsWord x → IsWord y → IsWord z → P (record { kind = kind; args = x ∷ y ∷ z ∷ [] })
 
 -- P holds of whatever may be kept
 abbrev pub OfAllKept : (List ℕ → Type 0) → Type 0

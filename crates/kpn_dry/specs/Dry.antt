@@ -22,20 +22,25 @@ IsComplete kinds net M c = IsDry kinds net M (channel_of net c).writer
 -- is a prefix of it
 pub record IsWhole (kinds : Family) (net : Network) (E : List Entry) (c : ℕ) : Type 0 where
   pub longer : (F : List Entry) (N : State) → IsRun kinds net (E ++ F) N → stream net (E ++ F) c ≡ stream net E c
-  pub others : (sizes : ℕ → ℕ) (F : List Entry) (N : State) → IsRun kinds (resized net sizes) F N → IsPrefixOf (stream (resized net sizes) F c) (stream net E c)
+  pub others : (sizes : ℕ → ℕ) (F : List Entry) (N : State) → IsRun kinds (resized net sizes) F N
+      → IsPrefixOf (stream (resized net sizes) F c) (stream net E c)
 
 -- what is dry stays so in each longer run, and does nothing more
 abbrev pub DryStaysDry : Family → Type 0
 DryStaysDry kinds =
-    (net : Network) (E F : List Entry) (M N : State) (p : ℕ) → IsRun kinds net E M → IsRun kinds net (E ++ F) N → IsDry kinds net M p
+    (net : Network) (E F : List Entry) (M N : State) (p : ℕ)
+    → IsRun kinds net E M → IsRun kinds net (E ++ F) N → IsDry kinds net M p
     → IsDry kinds net N p × (deeds F p ≡ [])
 
 -- what a dry process has done begins with all that it does in any other run, from any starting capacities
 abbrev pub DryHasDoneAll : Family → Type 0
 DryHasDoneAll kinds =
-    (net : Network) (sizes : ℕ → ℕ) (E F : List Entry) (M N : State) (p : ℕ) → IsRun kinds net E M → IsRun kinds (resized net sizes) F N → IsDry kinds net M p
+    (net : Network) (sizes : ℕ → ℕ) (E F : List Entry) (M N : State) (p : ℕ)
+    → IsRun kinds net E M → IsRun kinds (resized net sizes) F N → IsDry kinds net M p
     → IsPrefixOf (deeds F p) (deeds E p)
 
 -- a complete channel's stream is whole
 abbrev pub CompleteIsWhole : Family → Type 0
-CompleteIsWhole kinds = (net : Network) (E : List Entry) (M : State) (c : ℕ) → IsRun kinds net E M → IsComplete kinds net M c → IsWhole kinds net E c
+CompleteIsWhole kinds =
+    (net : Network) (E : List Entry) (M : State) (c : ℕ)
+    → IsRun kinds net E M → IsComplete kinds net M c → IsWhole kinds net E c

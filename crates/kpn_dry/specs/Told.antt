@@ -11,7 +11,8 @@ use Rattle.kpn_state.specs.Standings.{standing, has_stopped, is_busy, parked_ans
 
 -- a process that is neither ready nor out wants what it answered, and can't do it
 pub record TellWaits (kinds : Family) (net : Network) (M : State) (standings : List Standing) : Type 0 where
-  pub wanted : (p : ℕ) → is_busy (standing standings p) ≡ false → wants kinds net M p ≡ parked_answer (standing standings p)
+  pub wanted : (p : ℕ) → is_busy (standing standings p) ≡ false
+      → wants kinds net M p ≡ parked_answer (standing standings p)
   pub busy : (p : ℕ) → IsEnabled kinds net M p → is_busy (standing standings p) ≡ true
 
 module _ (net : Network) where

@@ -49,8 +49,10 @@ with_ended s c = record s { unended = without s.unended c }
 
 -- only the outside writes to inputs and reads from outputs
 pub record AreEnds (kinds : Family) (net : Network) (inputs outputs : List ℕ) : Type 0 where
-  pub only_fed : (c : ℕ) → is_among inputs c ≡ true → (c < length net.channels) × StopsAtOnce kinds net (channel_of net c).writer
-  pub only_drained : (c : ℕ) → is_among outputs c ≡ true → (c < length net.channels) × StopsAtOnce kinds net (channel_of net c).reader
+  pub only_fed : (c : ℕ) → is_among inputs c ≡ true
+      → (c < length net.channels) × StopsAtOnce kinds net (channel_of net c).writer
+  pub only_drained : (c : ℕ) → is_among outputs c ≡ true
+      → (c < length net.channels) × StopsAtOnce kinds net (channel_of net c).reader
 
 -- events led to the state, tokens came only into inputs and left only outputs, and the entries were counted
 pub record IsReached (kinds : Family) (net : Network) (inputs outputs : List ℕ) (counts : Counts) (M : State) : Type 0 where

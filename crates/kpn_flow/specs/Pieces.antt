@@ -36,9 +36,12 @@ pub record IsWay (kinds : Family) (net : Network) (inputs outputs : List ℕ) (x
 -- prefix-comparable
 abbrev pub PiecesAreComparable : Family → Type 0
 PiecesAreComparable kinds =
-    (net : Network) (inputs outputs : List ℕ) → AreEnds kinds net inputs outputs → (xs ys : List Event) (M N : State) (later last : ℕ → List Token)
-    → IsWay kinds net inputs outputs xs M later → IsWay kinds net inputs outputs ys N last → ((c : ℕ) → all_fed xs later c ≡ all_fed ys last c)
-    → (c : ℕ) → is_among outputs c ≡ true → is_among inputs c ≡ false → ArePrefixComparable (drained xs c ++ tokens M c) (drained ys c ++ tokens N c)
+    (net : Network) (inputs outputs : List ℕ)
+    → AreEnds kinds net inputs outputs → (xs ys : List Event) (M N : State) (later last : ℕ → List Token)
+    → IsWay kinds net inputs outputs xs M later → IsWay kinds net inputs outputs ys N last
+    → ((c : ℕ) → all_fed xs later c ≡ all_fed ys last c)
+    → (c : ℕ) → is_among outputs c ≡ true → is_among inputs c ≡ false
+    → ArePrefixComparable (drained xs c ++ tokens M c) (drained ys c ++ tokens N c)
 
 -- no process can continue, and none waits for room: nothing more is done unless more is fed
 pub record IsExhausted (kinds : Family) (net : Network) (M : State) : Type 0 where
@@ -54,6 +57,8 @@ pub record HaveGivenTheSame (outputs : List ℕ) (xs ys : List Event) (M N : Sta
 abbrev pub ExhaustedAreTheSame : Family → Type 0
 ExhaustedAreTheSame kinds =
     (net : Network) (inputs outputs : List ℕ) → AreEnds kinds net inputs outputs → (xs ys : List Event) (M N : State)
-    → Flows kinds net (start kinds net) xs M → IsAtEnds (is_among inputs) (is_among outputs) xs → IsExhausted kinds net M
-    → Flows kinds net (start kinds net) ys N → IsAtEnds (is_among inputs) (is_among outputs) ys → IsExhausted kinds net N
+    → Flows kinds net (start kinds net) xs M → IsAtEnds (is_among inputs) (is_among outputs) xs
+    → IsExhausted kinds net M
+    → Flows kinds net (start kinds net) ys N → IsAtEnds (is_among inputs) (is_among outputs) ys
+    → IsExhausted kinds net N
     → ((c : ℕ) → fed xs c ≡ fed ys c) → HaveGivenTheSame outputs xs ys M N

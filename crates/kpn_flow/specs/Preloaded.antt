@@ -46,7 +46,8 @@ pub record IsOpenRun (kinds : Family) (net : Network) (xs : List Event) (later :
   pub outputs : (c : ℕ) → outs c ≡ true → StopsAtOnce kinds net (channel_of net c).reader
   pub at_ends : IsAtEnds ins outs xs
   pub later_inputs : (c : ℕ) → ins c ≡ false → later c ≡ []
-  pub room : (c : ℕ) → c < length net.channels → length (channel_of net c).tokens + length (all_fed xs later c) + length (put_on (entries_of xs) c) ≤ sizes c
+  pub room : (c : ℕ) → c < length net.channels
+      → length (channel_of net c).tokens + length (all_fed xs later c) + length (put_on (entries_of xs) c) ≤ sizes c
 
 -- the deeds are a run of the network that held all the tokens from the start; each process has the same
 -- state, and each channel what left it, what is there and what is to come

@@ -18,11 +18,13 @@ pub record GoesOn (kinds : Family) (net : Network) (unended outputs : List ℕ) 
 -- nothing more
 abbrev pub DryStaysDryInFlow : Family → Type 0
 DryStaysDryInFlow kinds =
-    (net : Network) (unended outputs : List ℕ) (M N : State) (xs : List Event) (p : ℕ) → NoneCanHelp kinds net unended outputs M → GoesOn kinds net unended outputs M xs N
+    (net : Network) (unended outputs : List ℕ) (M N : State) (xs : List Event) (p : ℕ)
+    → NoneCanHelp kinds net unended outputs M → GoesOn kinds net unended outputs M xs N
     → IsDry kinds net M p → IsDry kinds net N p × (deeds (entries_of xs) p ≡ [])
 
 -- and nothing more is put on a channel that is complete
 abbrev pub CompleteStaysInFlow : Family → Type 0
 CompleteStaysInFlow kinds =
-    (net : Network) (unended outputs : List ℕ) (M N : State) (xs : List Event) (c : ℕ) → NoneCanHelp kinds net unended outputs M → GoesOn kinds net unended outputs M xs N
+    (net : Network) (unended outputs : List ℕ) (M N : State) (xs : List Event) (c : ℕ)
+    → NoneCanHelp kinds net unended outputs M → GoesOn kinds net unended outputs M xs N
     → IsComplete kinds net M c → put_on (entries_of xs) c ≡ []

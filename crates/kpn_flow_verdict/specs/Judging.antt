@@ -48,4 +48,5 @@ judged_text s end verdict = verdict_line s.network (places_in s) verdict ++ acti
 abbrev pub AreWhole : Family → FlowView → Type 0
 AreWhole kinds s =
     NoneCanHelp kinds s.network s.unended s.outputs s.state → (c : ℕ) → is_among s.outputs c ≡ true
-    → (xs : List Event) (N : State) → GoesOn kinds s.network s.unended s.outputs s.state xs N → put_on (entries_of xs) c ≡ []
+    → (xs : List Event) (N : State) → GoesOn kinds s.network s.unended s.outputs s.state xs N
+    → put_on (entries_of xs) c ≡ []

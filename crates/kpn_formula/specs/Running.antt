@@ -38,7 +38,9 @@ passed (suc code) n = behind_operands (suc code) (n / 32)
 
 -- the values after each program whose digits a number holds
 abbrev pub RunsFrom : ℕ → List ℕ → List ℕ → Type 0
-RunsFrom n values after = (card : Card) → (p : ℕ) → HoldsFrom card p n → take 6 after ≡ values_after (before_end (program_at card p)) (take 6 values)
+RunsFrom n values after =
+    (card : Card)
+    → (p : ℕ) → HoldsFrom card p n → take 6 after ≡ values_after (before_end (program_at card p)) (take 6 values)
 
 -- three words over those from a place on, and four zeros
 abbrev pub laid : ℕ → List ℕ → List ℕ → List ℕ

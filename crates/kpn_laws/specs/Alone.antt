@@ -54,7 +54,9 @@ module _ (kinds : Family) (net : Network) where
   DoesAlone T p ds = GoesOnAlone T p (status (start kinds net) p) [] ds
 
 abbrev pub IsFunction : Family → Type 0
-IsFunction kinds = (net : Network) (T : Streams) (p : ℕ) (ds es : List Deed) → DoesAlone kinds net T p ds → DoesAlone kinds net T p es → ArePrefixComparable ds es
+IsFunction kinds =
+    (net : Network) (T : Streams) (p : ℕ) (ds es : List Deed)
+    → DoesAlone kinds net T p ds → DoesAlone kinds net T p es → ArePrefixComparable ds es
 
 -- what p does, up to any point, depends only on the tokens taken
 abbrev pub IsContinuous : Family → Type 0

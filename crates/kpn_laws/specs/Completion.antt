@@ -20,29 +20,35 @@ pub record IsAbove (kinds : Family) (net : Network) (M : State) : Type 0 where
   pub above : net.ceiling < capacity M channel
 
 abbrev pub CanAlwaysGoOn : Family → Type 0
-CanAlwaysGoOn kinds = (net : Network) (M : State) → CanGoOn kinds net M ⊎ (((a : End) × IsOver kinds net M a) ⊎ IsAbove kinds net M)
+CanAlwaysGoOn kinds =
+    (net : Network) (M : State)
+    → CanGoOn kinds net M ⊎ (((a : End) × IsOver kinds net M a) ⊎ IsAbove kinds net M)
 
 module _ (kinds : Family) where
   -- at most the entries of some run within b to its end, plus b for each channel
   abbrev pub FewEntries : Type 0
   FewEntries =
-      (net : Network) (b : ℕ) (s : EndsWithin kinds net b) → 0 < net.step → (E : List Entry) (M : State) → IsRun kinds net E M
+      (net : Network) (b : ℕ) (s : EndsWithin kinds net b)
+      → 0 < net.step → (E : List Entry) (M : State) → IsRun kinds net E M
       → length E ≤ length s.history + length net.channels * b
 
   -- if b is within the ceiling, each run can continue until a natural end
   abbrev pub Completes : Type 0
   Completes =
-      (net : Network) (b : ℕ) → EndsWithin kinds net b → b ≤ net.ceiling → (E : List Entry) (M : State) → IsRun kinds net E M
+      (net : Network) (b : ℕ)
+      → EndsWithin kinds net b → b ≤ net.ceiling → (E : List Entry) (M : State) → IsRun kinds net E M
       → CanGoOn kinds net M ⊎ IsAtOwnEnd kinds net M
 
   -- so each run has a continuation to such an end
   abbrev pub HasEnd : Type 0
   HasEnd =
-      (net : Network) (b : ℕ) → EndsWithin kinds net b → b ≤ net.ceiling → 0 < net.step → (E : List Entry) (M : State) → IsRun kinds net E M
+      (net : Network) (b : ℕ)
+      → EndsWithin kinds net b → b ≤ net.ceiling → 0 < net.step → (E : List Entry) (M : State) → IsRun kinds net E M
       → (F : List Entry) × ((N : State) × Run kinds net M F N × IsAtOwnEnd kinds net N)
 
   -- if capacity b suffices for any number of deeds, and b is within the ceiling, no run ends
   abbrev pub NeverEnds : Type 0
   NeverEnds =
-      (net : Network) (b : ℕ) → ((n : ℕ) → LastsWithin kinds net b n) → b ≤ net.ceiling → (E : List Entry) (M : State) → IsRun kinds net E M
+      (net : Network) (b : ℕ)
+      → ((n : ℕ) → LastsWithin kinds net b n) → b ≤ net.ceiling → (E : List Entry) (M : State) → IsRun kinds net E M
       → CanGoOn kinds net M

@@ -23,7 +23,9 @@ written net c ds = (channel_of net c).tokens ++ puts ds c
 module _ (kinds : Family) (net : Network) where
   -- T is a pre-fixed point of the equations: each stream begins with all that its writer writes for T
   abbrev pub Obeys : Streams → Type 0
-  Obeys T = (c : ℕ) (ds : List Deed) → DoesAlone kinds net T (channel_of net c).writer ds → BeginsWith (T c) (written net c ds)
+  Obeys T =
+      (c : ℕ) (ds : List Deed)
+      → DoesAlone kinds net T (channel_of net c).writer ds → BeginsWith (T c) (written net c ds)
 
   -- T is a solution, a fixed point: it has no token that its writer doesn't write
   pub record IsSolution (T : Streams) : Type 0 where
@@ -70,12 +72,14 @@ module _ (kinds : Family) where
   -- soundness: all runs, over or not, from any starting capacities
   abbrev pub StreamsAreBelow : Type 0
   StreamsAreBelow =
-      (net : Network) (sizes : ℕ → ℕ) (E : List Entry) (M : State) (T : Streams) → IsRun kinds (resized net sizes) E M → Obeys kinds net T
+      (net : Network) (sizes : ℕ → ℕ) (E : List Entry) (M : State) (T : Streams)
+      → IsRun kinds (resized net sizes) E M → Obeys kinds net T
       → (c : ℕ) → BeginsWith (T c) (stream net E c)
 
   abbrev pub EndIsLeastSolution : Type 0
   EndIsLeastSolution =
-      (net : Network) (E : List Entry) (M : State) (a : End) → IsFinal kinds net E M a → IsNatural a → IsLeastSolution kinds net (streams_of net E)
+      (net : Network) (E : List Entry) (M : State) (a : End)
+      → IsFinal kinds net E M a → IsNatural a → IsLeastSolution kinds net (streams_of net E)
 
   abbrev pub DigestIsLeastSolution : Type 0
   DigestIsLeastSolution =
@@ -90,7 +94,8 @@ module _ (kinds : Family) where
 
   abbrev pub EndIsLeastFromAny : Type 0
   EndIsLeastFromAny =
-      (net : Network) (sizes : ℕ → ℕ) (E : List Entry) (M : State) (a : End) → IsFinal kinds (resized net sizes) E M a → IsNatural a
+      (net : Network) (sizes : ℕ → ℕ) (E : List Entry) (M : State) (a : End)
+      → IsFinal kinds (resized net sizes) E M a → IsNatural a
       → IsLeastSolution kinds net (streams_of net E)
 
   -- completeness: what a process alone does for streams that runs reach, it does in some run
@@ -104,10 +109,13 @@ module _ (kinds : Family) where
   LimitIsLeastSolution = (net : Network) (T : Streams) → IsLimit kinds net T → IsLeastSolution kinds net T
 
   abbrev pub OneLeastSolution : Type 0
-  OneLeastSolution = (net : Network) (T U : Streams) → IsLeastSolution kinds net T → IsLeastSolution kinds net U → (c n : ℕ) → T c n ≡ U c n
+  OneLeastSolution =
+      (net : Network) (T U : Streams)
+      → IsLeastSolution kinds net T → IsLeastSolution kinds net U → (c n : ℕ) → T c n ≡ U c n
 
   -- from large enough capacities
   abbrev pub TwoHaveCommonRun : Type 0
   TwoHaveCommonRun =
-      (net : Network) (sizes others : ℕ → ℕ) (E F : List Entry) (M N : State) → IsRun kinds (resized net sizes) E M → IsRun kinds (resized net others) F N
+      (net : Network) (sizes others : ℕ → ℕ) (E F : List Entry) (M N : State)
+      → IsRun kinds (resized net sizes) E M → IsRun kinds (resized net others) F N
       → HasCommonRun kinds net E F

@@ -17,7 +17,8 @@ pub record IsDominated (F E : List Entry) : Type 0 where
 -- E dominates each F without a capacity above that of E's chosen channel
 abbrev pub Dominates : Family → Type 0
 Dominates kinds =
-    (net : Network) (sizes : ℕ → ℕ) (E F : List Entry) (M N : State) (c : ℕ) → IsRun kinds net E M → IsArtificial kinds net M → IsChosen kinds net M c
+    (net : Network) (sizes : ℕ → ℕ) (E F : List Entry) (M N : State) (c : ℕ)
+    → IsRun kinds net E M → IsArtificial kinds net M → IsChosen kinds net M c
     → IsRun kinds (resized net sizes) F N → IsBoundedBy N (capacity M c) → IsDominated F E
 
 module _ (kinds : Family) where
@@ -30,7 +31,8 @@ module _ (kinds : Family) where
   abbrev pub GrowsBelow : Type 0
   GrowsBelow =
       (net : Network) (b : ℕ) → Suffices kinds net b → (E F : List Entry) (N : State) (c to : ℕ)
-      → IsRun kinds net (E ++ Grew c to ∷ F) N → (grown (channel_of net c).capacity (growths E) c < b) × (to < b + net.step)
+      → IsRun kinds net (E ++ Grew c to ∷ F) N
+      → (grown (channel_of net c).capacity (growths E) c < b) × (to < b + net.step)
 
   -- its starting capacity, or one below b plus a step
   abbrev pub StaysBelow : Type 0
@@ -41,7 +43,9 @@ module _ (kinds : Family) where
   -- no capacity above b, if none is at the start
   abbrev pub LeastPossible : Type 0
   LeastPossible =
-      (net : Network) (b : ℕ) → Suffices kinds net b → net.step ≡ 1 → IsBoundedBy (start kinds net) b → (E : List Entry) (M : State) → IsRun kinds net E M
+      (net : Network) (b : ℕ)
+      → Suffices kinds net b → net.step ≡ 1 → IsBoundedBy (start kinds net) b → (E : List Entry) (M : State)
+      → IsRun kinds net E M
       → IsBoundedBy M b
 
   abbrev pub FewGrowths : Type 0
@@ -50,4 +54,6 @@ module _ (kinds : Family) where
       → length (growths E) ≤ length net.channels * b
 
   abbrev pub CeilingSuffices : Type 0
-  CeilingSuffices = (net : Network) (b : ℕ) → Suffices kinds net b → b ≤ net.ceiling → (E : List Entry) (M : State) → IsFinal kinds net E M Ceiling → ⊥
+  CeilingSuffices =
+      (net : Network) (b : ℕ)
+      → Suffices kinds net b → b ≤ net.ceiling → (E : List Entry) (M : State) → IsFinal kinds net E M Ceiling → ⊥

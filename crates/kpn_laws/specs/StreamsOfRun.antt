@@ -18,4 +18,6 @@ pub record ApproachLeastSolution (kinds : Family) (net : Network) (E : List Entr
       → IsLeastSolution kinds net (streams_of net F)
 
 abbrev pub EachApproachesLeastSolution : Family → Type 0
-EachApproachesLeastSolution kinds = (net : Network) (E : List Entry) (M : State) → IsRun kinds net E M → ApproachLeastSolution kinds net E M
+EachApproachesLeastSolution kinds =
+    (net : Network) (E : List Entry) (M : State)
+    → IsRun kinds net E M → ApproachLeastSolution kinds net E M

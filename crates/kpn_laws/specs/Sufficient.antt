@@ -35,10 +35,12 @@ Suffices kinds net b = EndsWithin kinds net b ⊎ ((n : ℕ) → LastsWithin kin
 
 abbrev pub OwnEndSuffices : Family → Type 0
 OwnEndSuffices kinds =
-    (net : Network) (E : List Entry) (M : State) (a : End) (b : ℕ) → IsFinal kinds net E M a → IsNatural a → IsBoundedBy M b → EndsWithin kinds net b
+    (net : Network) (E : List Entry) (M : State) (a : End) (b : ℕ)
+    → IsFinal kinds net E M a → IsNatural a → IsBoundedBy M b → EndsWithin kinds net b
 
 -- without growths, no capacity rises
 abbrev pub KeepsCapacities : Family → Type 0
 KeepsCapacities kinds =
-    (net : Network) (sizes : ℕ → ℕ) (b : ℕ) (F : List Entry) (N : State) → ((c : ℕ) → c < length net.channels → sizes c ≤ b)
+    (net : Network) (sizes : ℕ → ℕ) (b : ℕ) (F : List Entry) (N : State)
+    → ((c : ℕ) → c < length net.channels → sizes c ≤ b)
     → IsRun kinds (resized net sizes) F N → growths F ≡ [] → IsBoundedBy N b

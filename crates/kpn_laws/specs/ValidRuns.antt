@@ -12,4 +12,6 @@ abbrev pub StartsWithin : (Card → Option Signature) → Family → Type 0
 StartsWithin signature kinds = (net : Network) → IsValid signature net → IsWithin (start kinds net)
 
 abbrev pub StaysWithin : (Card → Option Signature) → Family → Type 0
-StaysWithin signature kinds = (net : Network) → IsValid signature net → (E : List Entry) (M : State) → IsRun kinds net E M → IsWithin M
+StaysWithin signature kinds =
+    (net : Network)
+    → IsValid signature net → (E : List Entry) (M : State) → IsRun kinds net E M → IsWithin M

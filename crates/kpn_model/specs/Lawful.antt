@@ -57,7 +57,8 @@ module _ (signature : Card → Option Signature) where
   module _ (admits : Admits) where
     abbrev pub AfterAct : Card → List ℕ → Act → Token → Type 0
     AfterAct card next Stop token = Unit {0}
-    AfterAct card next (Read k) token = in_sort card k ≡ Some (sort_of token) → Fits token → admits card next (Some token)
+    AfterAct card next (Read k) token =
+        in_sort card k ≡ Some (sort_of token) → Fits token → admits card next (Some token)
     AfterAct card next (Write k t) token = admits card next None
 
     -- what follows an answer is admitted; after a read, with this token
@@ -66,6 +67,8 @@ module _ (signature : Card → Option Signature) where
 
     -- the laws of a family, for cards that have a signature
     pub record AreLawful (kinds : Family) : Type 0 where
-      pub names_port : (card : Card) (local : List ℕ) (last : Option Token) → CardFits card → IsSome (signature card) → admits card local last → NamesPort card (kinds.answer card local last).act
-      pub leads_on : (card : Card) (local : List ℕ) (last : Option Token) (token : Token) → CardFits card → IsSome (signature card) → admits card local last → LeadsOn card (kinds.answer card local last) token
+      pub names_port : (card : Card) (local : List ℕ) (last : Option Token) → CardFits card → IsSome (signature card)
+          → admits card local last → NamesPort card (kinds.answer card local last).act
+      pub leads_on : (card : Card) (local : List ℕ) (last : Option Token) (token : Token) → CardFits card
+          → IsSome (signature card) → admits card local last → LeadsOn card (kinds.answer card local last) token
       pub starts : (card : Card) → CardFits card → IsSome (signature card) → admits card (kinds.start card) None

@@ -22,10 +22,14 @@ OneState kinds = (net : Network) (S M N : State) (E : List Entry) → Run kinds 
 
 -- each prefix of a history is a run, to a state from which the rest is one
 abbrev pub PrefixesAreRuns : Family → Type 0
-PrefixesAreRuns kinds = (net : Network) (S N : State) (E F : List Entry) → Run kinds net S (E ++ F) N → (M : State) × Run kinds net S E M × Run kinds net M F N
+PrefixesAreRuns kinds =
+    (net : Network) (S N : State) (E F : List Entry)
+    → Run kinds net S (E ++ F) N → (M : State) × Run kinds net S E M × Run kinds net M F N
 
 abbrev pub AlwaysWithin : Family → Type 0
-AlwaysWithin kinds = (net : Network) → IsWithin (start kinds net) → (E : List Entry) (M : State) → IsRun kinds net E M → IsWithin M
+AlwaysWithin kinds =
+    (net : Network)
+    → IsWithin (start kinds net) → (E : List Entry) (M : State) → IsRun kinds net E M → IsWithin M
 
 -- the history determines what each channel holds, and its capacity
 abbrev pub HistoryTellsState : Family → Type 0

@@ -41,8 +41,10 @@ module _ (signature : Card → Option Signature) (net : Network) where
     pub cards : All (λ p. CardFits p.card) net.processes
     pub signed : All (λ p. IsSome (signature p.card)) net.processes
     pub ends : All HasEnds net.channels
-    pub writers : (p k : ℕ) → p < length net.processes → k < 3 → IsSome (out_sort signature (card_of net p) k) → JustOne (λ (c : Channel). (c.writer ≡ p) × (c.out ≡ k)) net.channels
-    pub readers : (p k : ℕ) → p < length net.processes → k < 3 → IsSome (in_sort signature (card_of net p) k) → JustOne (λ (c : Channel). (c.reader ≡ p) × (c.input ≡ k)) net.channels
+    pub writers : (p k : ℕ) → p < length net.processes → k < 3 → IsSome (out_sort signature (card_of net p) k)
+        → JustOne (λ (c : Channel). (c.writer ≡ p) × (c.out ≡ k)) net.channels
+    pub readers : (p k : ℕ) → p < length net.processes → k < 3 → IsSome (in_sort signature (card_of net p) k)
+        → JustOne (λ (c : Channel). (c.reader ≡ p) × (c.input ≡ k)) net.channels
     pub capacities : All (λ c. (1 ≤ c.capacity) × (c.capacity ≤ net.ceiling)) net.channels
     pub start_tokens : All (λ c. AllByRecursion (IsOfSort c.sort) c.tokens) net.channels
     pub start_fits : All (λ c. length c.tokens ≤ c.capacity) net.channels
@@ -56,9 +58,11 @@ module _ (signature : Card → Option Signature) (net : Network) where
 -- each token has its channel's sort, and each live process's state is admitted
 pub record IsWellTyped (admits : Admits) (net : Network) (M : State) : Type 0 where
   pub tokens : (c : ℕ) → AllByRecursion (IsOfSort (channel_of net c).sort) (tokens M c)
-  pub locals : (p : ℕ) (local : List ℕ) (last : Option Token) → status M p ≡ Live local last → admits (card_of net p) local last
+  pub locals : (p : ℕ) (local : List ℕ) (last : Option Token) → status M p ≡ Live local last
+      → admits (card_of net p) local last
 
 -- each run of a valid network is well-typed at each moment
 abbrev pub StaysWellTyped : (Card → Option Signature) → Admits → Family → Type 0
 StaysWellTyped signature admits kinds =
-    (net : Network) → IsValid signature net → (E : List Entry) (M : State) → IsRun kinds net E M → IsWellTyped admits net M
+    (net : Network)
+    → IsValid signature net → (E : List Entry) (M : State) → IsRun kinds net E M → IsWellTyped admits net M

@@ -23,4 +23,5 @@ digest_with cause d = record {
 -- the detail is that of a run to M that ended for this cause
 pub record IsReport (kinds : Family) (net : Network) (cause : End) (E : List Entry) (M : State) (detail : Option Detail) : Type 0 where
   pub none : has_report cause ≡ false → detail ≡ None
-  pub some : has_report cause ≡ true → (d : Detail) × (detail ≡ Some d) × (digest_with cause d ≡ digest kinds net cause E M)
+  pub some : has_report cause ≡ true
+      → (d : Detail) × (detail ≡ Some d) × (digest_with cause d ≡ digest kinds net cause E M)

@@ -23,7 +23,8 @@ AreMade made = ⊥
 -- of what is kept and of three words a step makes four words to be kept, and three
 abbrev pub MakesWords : (List ℕ → List ℕ → List ℕ × List ℕ) → List ℕ → Type 0
 MakesWords step kept =
-    (x y z : ℕ) → IsWord x → IsWord y → IsWord z → AreKept (step kept (x ∷ y ∷ z ∷ [])).0 × AreMade (step kept (x ∷ y ∷ z ∷ [])).1
+    (x y z : ℕ)
+    → IsWord x → IsWord y → IsWord z → AreKept (step kept (x ∷ y ∷ z ∷ [])).0 × AreMade (step kept (x ∷ y ∷ z ∷ [])).1
 
 -- four words are kept at the start, and each step makes words
 pub record StepWords (ports : Card → Option Signature) (start : Card → List ℕ) (step : Card → List ℕ → List ℕ → List ℕ × List ℕ) : Type 0 where

@@ -17,11 +17,15 @@ HasAnswer s step kept answer (Steps inputs) = let made = made_by s step kept (li
 
 -- the turn with these inputs read
 abbrev pub IsReadTurn : Signature → List ℕ → List ℕ → Turn → Type 0
-IsReadTurn s kept inputs turn = (step : List ℕ → List ℕ → List ℕ × List ℕ) → HasAnswer s step kept (read_answer s step kept inputs) turn
+IsReadTurn s kept inputs turn =
+    (step : List ℕ → List ℕ → List ℕ × List ℕ)
+    → HasAnswer s step kept (read_answer s step kept inputs) turn
 
 -- the turn in a local state, after this token
 abbrev pub IsTurn : Signature → List ℕ → Option Token → Turn → Type 0
-IsTurn s local last turn = (step : List ℕ → List ℕ → List ℕ × List ℕ) → HasAnswer s step local (round_answer s step local last) turn
+IsTurn s local last turn =
+    (step : List ℕ → List ℕ → List ℕ × List ℕ)
+    → HasAnswer s step local (round_answer s step local last) turn
 
 -- no more outputs are left than there are
 abbrev pub LeavesFew : Signature → Turn → Type 0

@@ -86,4 +86,5 @@ pub record StandingsFit (kinds : Family) (admits : Admits) (net : Network) (spar
   pub stopped : (p : ℕ) → standing standings p ≡ Stopped → status M p ≡ Done
   pub done : (p : ℕ) → status M p ≡ Done → standing standings p ≡ Stopped
   pub wanted : (p : ℕ) (a : Answer) → standing standings p ≡ Parked a → wants kinds net M p ≡ Some a
-  pub blocked : (p : ℕ) (a : Answer) → spared ≢ Some p → standing standings p ≡ Parked a → IsPossible kinds net M p a.act → ⊥
+  pub blocked : (p : ℕ) (a : Answer) → spared ≢ Some p → standing standings p ≡ Parked a
+      → IsPossible kinds net M p a.act → ⊥

@@ -12,4 +12,5 @@ scanned step kept (x ∷ xs) = (step kept x).1 ∷ scanned step (step kept x).0 
 
 abbrev pub FiltersScan : (Card → List ℕ) → (Card → List ℕ → ℕ → List ℕ × ℕ) → Type 0
 FiltersScan start step =
-    (card : Card) (ws : List ℕ) → Writes (filter_family start step) card (words ws ∷ []) (words (scanned (step card) (start card) ws) ∷ [])
+    (card : Card) (ws : List ℕ)
+    → Writes (filter_family start step) card (words ws ∷ []) (words (scanned (step card) (start card) ws) ∷ [])

@@ -27,5 +27,6 @@ module _ (s : Signature) where
 -- fed with a stream for each input, a process writes what the steps make of the streams side by side
 abbrev pub RoundsScan : (Card → Option Signature) → (Card → List ℕ) → (Card → List ℕ → List ℕ → List ℕ × List ℕ) → Type 0
 RoundsScan ports start step =
-    (card : Card) (s : Signature) (ins : List (List Token)) → ports card ≡ Some s → 1 ≤ length ins → length ins ≡ count s.ins
+    (card : Card) (s : Signature) (ins : List (List Token))
+    → ports card ≡ Some s → 1 ≤ length ins → length ins ≡ count s.ins
     → Writes (rounds_family ports start step) card ins (columns s (scanned (made_by s (step card)) (start card) (side_by_side ins)))

@@ -23,10 +23,15 @@ abbrev pub stepped : (List ℕ → Token → List ℕ × Token) → List ℕ →
 stepped step kept [] = []
 stepped step kept (t ∷ ts) = (step kept t).1 ∷ stepped step (step kept t).0 ts
 
+-- the kind answers by reads of a token, each followed by a write of what the step makes of it
+abbrev pub AnswersByStep : Family → Card → (List ℕ → Token → List ℕ × Token) → Type 0
+AnswersByStep kinds card step =
+    (local : List ℕ) (last : Option Token) → kinds.answer card local last ≡ step_answer step local last
+
 -- every process that reads a token, then writes what a step makes of it, writes the scan
 abbrev pub StepsScan : Family → Type 0
 StepsScan kinds =
-    (card : Card) (step : List ℕ → Token → List ℕ × Token) → ((local : List ℕ) (last : Option Token) → kinds.answer card local last ≡ step_answer step local last)
+    (card : Card) (step : List ℕ → Token → List ℕ × Token) → AnswersByStep kinds card step
     → (ts : List Token) → Writes kinds card (ts ∷ []) (stepped step (kinds.start card) ts ∷ [])
 
 -- what the joins make of the tokens of two streams side by side, each with the word that the one before kept
@@ -34,18 +39,28 @@ abbrev pub joined : (ℕ → ℕ → Token → ℕ × Token) → ℕ → List To
 joined join kept (x ∷ xs) (y ∷ ys) = (join kept (number_of x) y).1 ∷ joined join (join kept (number_of x) y).0 xs ys
 joined join kept xs ys = []
 
+-- the kind answers by reads of a token of both inputs, followed by a write of what the join makes of them
+abbrev pub AnswersByJoin : Family → Card → (ℕ → ℕ → Token → ℕ × Token) → Type 0
+AnswersByJoin kinds card join =
+    (local : List ℕ) (last : Option Token) → kinds.answer card local last ≡ join_answer join local last
+
 -- every process that reads a token of both inputs, then writes what is made of them, writes that of both streams
 abbrev pub JoinsScan : Family → Type 0
 JoinsScan kinds =
-    (card : Card) (join : ℕ → ℕ → Token → ℕ × Token) (kept : ℕ) → ((local : List ℕ) (last : Option Token) → kinds.answer card local last ≡ join_answer join local last)
-    → kinds.start card ≡ three READS_FIRST 0 kept → (xs ys : List Token) → Writes kinds card (xs ∷ ys ∷ []) (joined join kept xs ys ∷ [])
+    (card : Card) (join : ℕ → ℕ → Token → ℕ × Token) (kept : ℕ) → AnswersByJoin kinds card join
+    → kinds.start card ≡ three READS_FIRST 0 kept
+    → (xs ys : List Token) → Writes kinds card (xs ∷ ys ∷ []) (joined join kept xs ys ∷ [])
 
 abbrev pub signal_card : Signal → List ℕ → Card
 signal_card kind args = card (row_of kind).number args
 
--- fed with words, a process of the kind writes what f makes of each
+-- a process of the kind, with these arguments, fed with `ins`, writes `outs`
+abbrev pub SignalWrites : Signal → List ℕ → List (List Token) → List (List Token) → Type 0
+SignalWrites kind args ins outs = Writes signals (signal_card kind args) ins outs
+
+-- fed with words, it writes what f makes of each
 abbrev pub Maps : Signal → List ℕ → (ℕ → ℕ) → Type 0
-Maps kind args f = (xs : List ℕ) → Writes signals (signal_card kind args) (words xs ∷ []) (words (map f xs) ∷ [])
+Maps kind args f = (xs : List ℕ) → SignalWrites kind args (words xs ∷ []) (words (map f xs) ∷ [])
 
 abbrev pub ShiftWrites : Type 0
 ShiftWrites = (k : ℕ) (others : List ℕ) → Maps Shift (k ∷ others) (right_shift k)
@@ -67,7 +82,7 @@ GainWrites = (a b : ℕ) (others : List ℕ) → Maps Gain (a ∷ b ∷ others) 
 
 -- fed with words, it writes what f makes of all of them
 abbrev pub Makes : Signal → List ℕ → (List ℕ → List ℕ) → Type 0
-Makes kind args f = (xs : List ℕ) → Writes signals (signal_card kind args) (words xs ∷ []) (words (f xs) ∷ [])
+Makes kind args f = (xs : List ℕ) → SignalWrites kind args (words xs ∷ []) (words (f xs) ∷ [])
 
 -- the level y moves towards each number
 abbrev pub levels : ℕ → ℕ → List ℕ → List ℕ
@@ -85,10 +100,6 @@ running z (x ∷ xs) = total z x ∷ running (total z x) xs
 abbrev pub SumWrites : Type 0
 SumWrites = (others : List ℕ) → Makes Sum others (running 0)
 
--- each number minus the one before
-abbrev pub DifferenceWrites : Type 0
-DifferenceWrites = (others : List ℕ) → Makes Difference others (λ xs. map (λ p. difference p.0 p.1) (zip xs (0 ∷ xs)))
-
 -- what f makes of each number and all before it, the latest first
 abbrev pub over_past : (List ℕ → ℕ) → List ℕ → List ℕ → List ℕ
 over_past f past [] = []
@@ -96,15 +107,25 @@ over_past f past (x ∷ xs) = f (x ∷ past) ∷ over_past f (x ∷ past) xs
 
 -- before the first number there were zeros
 abbrev pub DelayWrites : Type 0
-DelayWrites = (n : ℕ) (others : List ℕ) → n < 4 → Makes Delay (suc n ∷ others) (over_past (λ past. at past (suc n)) (replicate 4 0))
+DelayWrites =
+    (n : ℕ) (others : List ℕ)
+    → n < 4 → Makes Delay (suc n ∷ others) (over_past (λ past. at past (suc n)) (replicate 4 0))
 
 abbrev pub AverageWrites : Type 0
 AverageWrites = (n : ℕ) (others : List ℕ) → n ≤ 5 → Makes Average (n ∷ others) (over_past (mean n) (replicate 4 0))
 
+-- what f makes of the first of each list, of the second of each, and so on
+abbrev pub pairwise : {A B C : Type 0} → (A → B → C) → List A → List B → List C
+pairwise f xs ys = map (λ p. f p.0 p.1) (zip xs ys)
+
+-- each number minus the one before
+abbrev pub DifferenceWrites : Type 0
+DifferenceWrites = (others : List ℕ) → Makes Difference others (λ xs. pairwise difference xs (0 ∷ xs))
+
 -- fed with words on both inputs, it writes what f makes of each two
 abbrev pub Zips : Signal → (ℕ → ℕ → ℕ) → Type 0
 Zips kind f =
-    (others xs ys : List ℕ) → Writes signals (signal_card kind others) (words xs ∷ words ys ∷ []) (words (map (λ p. f p.0 p.1) (zip xs ys)) ∷ [])
+    (others xs ys : List ℕ) → SignalWrites kind others (words xs ∷ words ys ∷ []) (words (pairwise f xs ys) ∷ [])
 
 abbrev pub SubWrites : Type 0
 SubWrites = Zips Sub difference
@@ -127,7 +148,7 @@ ModWrites = Zips Mod remainder
 -- the same for what it tells of each two
 abbrev pub Tells : Signal → (ℕ → ℕ → Bool) → Type 0
 Tells kind f =
-    (others xs ys : List ℕ) → Writes signals (signal_card kind others) (words xs ∷ words ys ∷ []) (flags (map (λ p. f p.0 p.1) (zip xs ys)) ∷ [])
+    (others xs ys : List ℕ) → SignalWrites kind others (words xs ∷ words ys ∷ []) (flags (pairwise f xs ys) ∷ [])
 
 abbrev pub LessWrites : Type 0
 LessWrites = Tells Less (λ x y. int_lt (signed x) (signed y))
@@ -143,19 +164,25 @@ held v xs fs = []
 
 abbrev pub HoldWrites : Type 0
 HoldWrites =
-    (v : ℕ) (others xs : List ℕ) (fs : List Bool) → Writes signals (signal_card Hold (v ∷ others)) (words xs ∷ flags fs ∷ []) (words (held v xs fs) ∷ [])
+    (v : ℕ) (others xs : List ℕ) (fs : List Bool)
+    → SignalWrites Hold (v ∷ others) (words xs ∷ flags fs ∷ []) (words (held v xs fs) ∷ [])
 
 -- the words whose flag is true
 abbrev pub GateWrites : Type 0
-GateWrites = (others xs : List ℕ) (fs : List Bool) → Writes signals (signal_card Gate others) (words xs ∷ flags fs ∷ []) (words (flagged fs xs) ∷ [])
+GateWrites =
+    (others xs : List ℕ) (fs : List Bool)
+    → SignalWrites Gate others (words xs ∷ flags fs ∷ []) (words (flagged fs xs) ∷ [])
 
 abbrev pub CopyFlagsWrites : Type 0
-CopyFlagsWrites = (others : List ℕ) (fs : List Bool) → Writes signals (signal_card CopyFlags others) (flags fs ∷ []) (flags fs ∷ flags fs ∷ [])
+CopyFlagsWrites =
+    (others : List ℕ) (fs : List Bool)
+    → SignalWrites CopyFlags others (flags fs ∷ []) (flags fs ∷ flags fs ∷ [])
 
 -- whether each flag is true and the one before is not; before the first is false
 abbrev pub EdgeWrites : Type 0
 EdgeWrites =
-    (others : List ℕ) (fs : List Bool) → Writes signals (signal_card Edge others) (flags fs ∷ []) (flags (map (λ p. p.0 && not p.1) (zip fs (false ∷ fs))) ∷ [])
+    (others : List ℕ) (fs : List Bool)
+    → SignalWrites Edge others (flags fs ∷ []) (flags (pairwise (λ f before. f && not before) fs (false ∷ fs)) ∷ [])
 
 -- how many flags were true so far, and z, modulo 2^64
 abbrev pub counts : ℕ → List Bool → List ℕ
@@ -163,4 +190,6 @@ counts z [] = []
 counts z (f ∷ fs) = (z + number_of (Flag f)) % 2 ^ 64 ∷ counts ((z + number_of (Flag f)) % 2 ^ 64) fs
 
 abbrev pub CounterWrites : Type 0
-CounterWrites = (others : List ℕ) (fs : List Bool) → Writes signals (signal_card Counter others) (flags fs ∷ []) (words (counts 0 fs) ∷ [])
+CounterWrites =
+    (others : List ℕ) (fs : List Bool)
+    → SignalWrites Counter others (flags fs ∷ []) (words (counts 0 fs) ∷ [])

@@ -51,7 +51,10 @@ has_ports net p inputs outputs =
 
 -- each channel comes after those that its writer reads, so there is no loop
 abbrev pub IsInOrder : Network → Type 0
-IsInOrder net = (b c : ℕ) → b < length net.channels → c < length net.channels → (channel_of net b).reader ≡ (channel_of net c).writer → b < c
+IsInOrder net =
+    (b c : ℕ)
+    → b < length net.channels → c < length net.channels → (channel_of net b).reader ≡ (channel_of net c).writer
+    → b < c
 
 abbrev pub is_in_order : Network → Bool
 is_in_order net =
@@ -93,8 +96,10 @@ IsLimitOf A T = (c k : ℕ) (t : Token) → (T c k ≡ Some t) ↔ ((n : ℕ) ×
 -- X is the least solution; natural ends have exactly X, from any capacities; every run has prefixes of it
 pub record HasStreams (kinds : Family) (net : Network) (X : ℕ → List Token) : Type 0 where
   pub least : IsLeastSolution kinds net (as_streams X)
-  pub at_end : (sizes : ℕ → ℕ) (E : List Entry) (M : State) (a : End) → IsFinal kinds (resized net sizes) E M a → IsNatural a → (c : ℕ) → stream net E c ≡ X c
-  pub in_run : (sizes : ℕ → ℕ) (E : List Entry) (M : State) → IsRun kinds (resized net sizes) E M → (c : ℕ) → IsPrefixOf (stream net E c) (X c)
+  pub at_end : (sizes : ℕ → ℕ) (E : List Entry) (M : State) (a : End) → IsFinal kinds (resized net sizes) E M a
+      → IsNatural a → (c : ℕ) → stream net E c ≡ X c
+  pub in_run : (sizes : ℕ → ℕ) (E : List Entry) (M : State) → IsRun kinds (resized net sizes) E M → (c : ℕ)
+      → IsPrefixOf (stream net E c) (X c)
 
 -- only the cards, the ends of the channels and their start tokens
 abbrev pub bare : Network → Network
@@ -108,7 +113,9 @@ bare net =
     }
 
 abbrev pub TestTellsPorts : Type 0
-TestTellsPorts = (net : Network) (p inputs outputs : ℕ) → has_ports net p inputs outputs ≡ true → HasPorts net p inputs outputs
+TestTellsPorts =
+    (net : Network) (p inputs outputs : ℕ)
+    → has_ports net p inputs outputs ≡ true → HasPorts net p inputs outputs
 
 abbrev pub TestTellsOrder : Type 0
 TestTellsOrder = (net : Network) → is_in_order net ≡ true → IsInOrder net
@@ -124,57 +131,71 @@ module _ (kinds : Family) where
   -- a process alone writes what it writes when fed with first tokens of its input streams
   abbrev pub FedIsAlone : Type 0
   FedIsAlone =
-      (net : Network) (U : Streams) (p : ℕ) (ins outs : List (List Token)) → p < length net.processes → HasOutputs net p (length outs)
+      (net : Network) (U : Streams) (p : ℕ) (ins outs : List (List Token))
+      → p < length net.processes → HasOutputs net p (length outs)
       → Writes kinds (card_of net p) ins outs → ((k : ℕ) → BeginsAt U (in_of net p k) (get_or ins k []))
       → (ds : List Deed) × DoesAlone kinds net U p ds × ((k c : ℕ) → out_of net p k ≡ Some c → puts ds c ≡ get_or outs k [])
 
   -- and no more, if the streams have no other tokens
   abbrev pub FedIsAll : Type 0
   FedIsAll =
-      (net : Network) (U : Streams) (p : ℕ) (ins outs : List (List Token)) → p < length net.processes → HasOutputs net p (length outs)
+      (net : Network) (U : Streams) (p : ℕ) (ins outs : List (List Token))
+      → p < length net.processes → HasOutputs net p (length outs)
       → Writes kinds (card_of net p) ins outs → ((k : ℕ) → EndsAt U (in_of net p k) (get_or ins k []))
-      → (ds : List Deed) → DoesAlone kinds net U p ds → (k c : ℕ) → out_of net p k ≡ Some c → IsPrefixOf (puts ds c) (get_or outs k [])
+      → (ds : List Deed) → DoesAlone kinds net U p ds → (k c : ℕ) → out_of net p k ≡ Some c
+      → IsPrefixOf (puts ds c) (get_or outs k [])
 
   -- if a pre-fixed point begins with X, it also begins with what an equation makes of X
   abbrev pub StepIsBelow : Type 0
   StepIsBelow =
-      (net : Network) (X : ℕ → List Token) (U : Streams) (c : ℕ) (ts : List Token) → Obeys kinds net U → ((b : ℕ) → BeginsWith (U b) (X b))
+      (net : Network) (X : ℕ → List Token) (U : Streams) (c : ℕ) (ts : List Token)
+      → Obeys kinds net U → ((b : ℕ) → BeginsWith (U b) (X b))
       → HasEquation kinds net X c ts → BeginsWith (U c) ts
 
   -- each pre-fixed point begins with each approximation
   abbrev pub ApproximationsAreBelow : Type 0
   ApproximationsAreBelow =
-      (net : Network) (A : ℕ → ℕ → List Token) (U : Streams) → Approximates kinds net A → Obeys kinds net U → (n c : ℕ) → BeginsWith (U c) (A n c)
+      (net : Network) (A : ℕ → ℕ → List Token) (U : Streams)
+      → Approximates kinds net A → Obeys kinds net U → (n c : ℕ) → BeginsWith (U c) (A n c)
 
   -- each approximation begins with the one before
   abbrev pub ApproximationsGrow : Type 0
-  ApproximationsGrow = (net : Network) (A : ℕ → ℕ → List Token) → Approximates kinds net A → (n c : ℕ) → IsPrefixOf (A n c) (A (suc n) c)
+  ApproximationsGrow =
+      (net : Network) (A : ℕ → ℕ → List Token)
+      → Approximates kinds net A → (n c : ℕ) → IsPrefixOf (A n c) (A (suc n) c)
 
   -- some approximation begins with the streams of a run, over or not, from any starting capacities
   abbrev pub RunIsApproximated : Type 0
   RunIsApproximated =
-      (net : Network) (A : ℕ → ℕ → List Token) (sizes : ℕ → ℕ) (E : List Entry) (M : State) → Approximates kinds net A → IsRun kinds (resized net sizes) E M
+      (net : Network) (A : ℕ → ℕ → List Token) (sizes : ℕ → ℕ) (E : List Entry) (M : State)
+      → Approximates kinds net A → IsRun kinds (resized net sizes) E M
       → (n : ℕ) × ((c : ℕ) → IsPrefixOf (stream net E c) (A n c))
 
   -- the limit of the approximations is the least solution (Kleene 1952, Kahn 1974)
   abbrev pub LimitIsLeast : Type 0
-  LimitIsLeast = (net : Network) (A : ℕ → ℕ → List Token) (T : Streams) → Approximates kinds net A → IsLimitOf A T → IsLeastSolution kinds net T
+  LimitIsLeast =
+      (net : Network) (A : ℕ → ℕ → List Token) (T : Streams)
+      → Approximates kinds net A → IsLimitOf A T → IsLeastSolution kinds net T
 
   -- the network computes an approximation that equals the one before
   abbrev pub FixedIsComputed : Type 0
-  FixedIsComputed = (net : Network) (A : ℕ → ℕ → List Token) (n : ℕ) → Approximates kinds net A → ((c : ℕ) → A (suc n) c ≡ A n c) → HasStreams kinds net (A n)
+  FixedIsComputed =
+      (net : Network) (A : ℕ → ℕ → List Token) (n : ℕ)
+      → Approximates kinds net A → ((c : ℕ) → A (suc n) c ≡ A n c) → HasStreams kinds net (A n)
 
   abbrev pub SolvedIsSolution : Type 0
   SolvedIsSolution = (net : Network) (X : ℕ → List Token) → Solves kinds net X → IsSolution kinds net (as_streams X)
 
   abbrev pub SolutionSolves : Type 0
   SolutionSolves =
-      (net : Network) (X : ℕ → List Token) (c : ℕ) (ts : List Token) → IsSolution kinds net (as_streams X) → HasEquation kinds net X c ts → X c ≡ ts
+      (net : Network) (X : ℕ → List Token) (c : ℕ) (ts : List Token)
+      → IsSolution kinds net (as_streams X) → HasEquation kinds net X c ts → X c ≡ ts
 
   -- the network computes tokens that solve the equations if each pre-fixed point begins with them
   abbrev pub SolvedIsComputed : Type 0
   SolvedIsComputed =
-      (net : Network) (X : ℕ → List Token) → Solves kinds net X → ((U : Streams) → Obeys kinds net U → (c : ℕ) → BeginsWith (U c) (X c))
+      (net : Network) (X : ℕ → List Token)
+      → Solves kinds net X → ((U : Streams) → Obeys kinds net U → (c : ℕ) → BeginsWith (U c) (X c))
       → HasStreams kinds net X
 
   -- or if there is no loop
@@ -182,4 +203,6 @@ module _ (kinds : Family) where
   OrderedIsComputed = (net : Network) (X : ℕ → List Token) → Solves kinds net X → IsInOrder net → HasStreams kinds net X
 
   abbrev pub AlikeComputeTheSame : Type 0
-  AlikeComputeTheSame = (net other : Network) (X : ℕ → List Token) → bare net ≡ bare other → HasStreams kinds net X → HasStreams kinds other X
+  AlikeComputeTheSame =
+      (net other : Network) (X : ℕ → List Token)
+      → bare net ≡ bare other → HasStreams kinds net X → HasStreams kinds other X

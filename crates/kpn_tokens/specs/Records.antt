@@ -123,7 +123,9 @@ AllFit layout sort (token ∷ tokens) = IsOf sort token × (fits layout token �
 
 -- written tokens that fit are read back unchanged
 abbrev pub ReadsBack : Layout → Type 0
-ReadsBack layout = (sort : Sort) (tokens : List Token) → AllFit layout sort tokens → Say layout sort (flat_map (record_text layout) tokens) tokens
+ReadsBack layout =
+    (sort : Sort) (tokens : List Token)
+    → AllFit layout sort tokens → Say layout sort (flat_map (record_text layout) tokens) tokens
 
 -- the token at this place is the first that does not fit; those before it were appended
 pub record IsRefused (layout : Layout) (old new : List ℕ) (tokens : List Token) (place : ℕ) : Type 0 where

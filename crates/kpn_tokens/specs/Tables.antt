@@ -72,6 +72,7 @@ pub record IsFilled (table : Table) (n : ℕ) (column : ColumnView) : Type 0 whe
 -- written columns of tokens that fit, all of one length, are read back unchanged
 abbrev pub ReadsColumnsBack : Table → Type 0
 ReadsColumnsBack table =
-    (n : ℕ) (columns : List ColumnView) (place : ℕ) (sort : Sort) → AllByRecursion (IsFilled table n) columns → place < length columns
+    (n : ℕ) (columns : List ColumnView) (place : ℕ) (sort : Sort)
+    → AllByRecursion (IsFilled table n) columns → place < length columns
     → AllFit (column_layout table (length columns) place (get_or columns place no_column).decimals) sort (get_or columns place no_column).tokens
     → Say (column_layout table (length columns) place (get_or columns place no_column).decimals) sort (table_text table columns) (get_or columns place no_column).tokens

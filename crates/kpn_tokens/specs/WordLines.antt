@@ -21,4 +21,5 @@ pub record IsNumberLine (text : List ℕ) (count number : ℕ) : Type 0 where
 pub record IsWordLine (text : List ℕ) (count word : ℕ) : Type 0 where
   pub ends : count ≡ position_or_len is_line_feed text
   pub within : count < length text
-  pub says : (decimals : Decimals) → decimals.digits ≡ 0 → text_said decimals Words (strip_bom (before_first is_line_feed text)) ≡ Ok (Some (Word word))
+  pub says : (decimals : Decimals) → decimals.digits ≡ 0
+      → text_said decimals Words (strip_bom (before_first is_line_feed text)) ≡ Ok (Some (Word word))

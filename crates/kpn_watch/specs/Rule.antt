@@ -29,7 +29,8 @@ pub record WordIsTrue (s : State (Unit {0}) View) : Type 0 where
   pub first : (v : View) × (get_elem? s.views 0 ≡ some v) × (v.seen ≡ published)
   pub word : s.words ≡ word_of published.entries published.phase ∷ []
   pub short : length published.entries < 2 ^ 22
-  pub seen : (by : ℕ) (v : View) → get_elem? s.views by ≡ some v → ContinuesSeen v.seen published × ContinuesSeen v.note published
+  pub seen : (by : ℕ) (v : View) → get_elem? s.views by ≡ some v
+      → ContinuesSeen v.seen published × ContinuesSeen v.note published
 
 abbrev pub It : Type 0
 It = Me (Unit {0}) View

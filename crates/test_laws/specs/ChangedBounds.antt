@@ -35,8 +35,10 @@ GreatestGrows net M (Grew c to) N = GrowsGreatest net M c to N
 -- capacity than at its end
 abbrev pub EachBelowItsOwn : Type 0
 EachBelowItsOwn =
-    (net : Network) (sizes : ℕ → ℕ) (F : List Entry) (N : State) (a : End) → IsFinal standard (resized net sizes) F N a → IsNatural a
-    → (E : List Entry) (M : State) (c : ℕ) → IsRun standard net E M → IsArtificial standard net M → IsChosen standard net M c → capacity M c < capacity N c
+    (net : Network) (sizes : ℕ → ℕ) (F : List Entry) (N : State) (a : End)
+    → IsFinal standard (resized net sizes) F N a → IsNatural a
+    → (E : List Entry) (M : State) (c : ℕ) → IsRun standard net E M → IsArtificial standard net M
+    → IsChosen standard net M c → capacity M c < capacity N c
 
 -- if capacity b suffices, each channel has its starting capacity or at most b, whatever the step
 abbrev pub StaysUpTo : Type 0

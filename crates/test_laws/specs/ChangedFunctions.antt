@@ -18,7 +18,9 @@ use Rattle.test_laws.specs.WorkedFunctions.{Gives}
 
 -- count: the numbers up to n, not n numbers
 abbrev pub CountsUpTo : Type 0
-CountsUpTo = (from n : ℕ) (others : List ℕ) → Gives Count (from ∷ n ∷ others) [] (words (range_with_len from (n + 1 - from)) ∷ [])
+CountsUpTo =
+    (from n : ℕ) (others : List ℕ)
+    → Gives Count (from ∷ n ∷ others) [] (words (range_with_len from (n + 1 - from)) ∷ [])
 
 abbrev pub TakesOneMore : Type 0
 TakesOneMore = (n : ℕ) (others xs : List ℕ) → Gives Take (n ∷ others) (words xs ∷ []) (words (take (n + 1) xs) ∷ [])
@@ -30,17 +32,23 @@ every_other (x ∷ []) = x ∷ []
 every_other (x ∷ y ∷ xs) = x ∷ every_other xs
 
 abbrev pub CopiesInTurn : Type 0
-CopiesInTurn = (others xs : List ℕ) → Gives Copy others (words xs ∷ []) (words (every_other xs) ∷ words (every_other (drop 1 xs)) ∷ [])
+CopiesInTurn =
+    (others xs : List ℕ)
+    → Gives Copy others (words xs ∷ []) (words (every_other xs) ∷ words (every_other (drop 1 xs)) ∷ [])
 
 abbrev pub ForgetsItsWord : Type 0
 ForgetsItsWord = (v : ℕ) (others xs : List ℕ) → Gives Prefix (v ∷ others) (words xs ∷ []) (words xs ∷ [])
 
 abbrev pub SumsDoNotWrap : Type 0
-SumsDoNotWrap = (others xs ys : List ℕ) → Gives Add others (words xs ∷ words ys ∷ []) (words (map (λ p. p.0 + p.1) (zip xs ys)) ∷ [])
+SumsDoNotWrap =
+    (others xs ys : List ℕ)
+    → Gives Add others (words xs ∷ words ys ∷ []) (words (map (λ p. p.0 + p.1) (zip xs ys)) ∷ [])
 
 -- weave: one turn of the first stream, then the second for ever
 abbrev pub StopsTakingTurns : Type 0
-StopsTakingTurns = (a b : ℕ) (others xs ys : List ℕ) → Gives Weave (a ∷ b ∷ others) (words xs ∷ words ys ∷ []) (words (take a xs ++ ys) ∷ [])
+StopsTakingTurns =
+    (a b : ℕ) (others xs ys : List ℕ)
+    → Gives Weave (a ∷ b ∷ others) (words xs ∷ words ys ∷ []) (words (take a xs ++ ys) ∷ [])
 
 -- merge: both of two equal heads
 abbrev pub both_kept_with : ℕ → (List ℕ → List ℕ) → List ℕ → List ℕ
@@ -68,11 +76,14 @@ abbrev pub MergeDrains : Type 0
 MergeDrains = (others xs ys : List ℕ) → Gives Merge others (words xs ∷ words ys ∷ []) (words (drained xs ys) ∷ [])
 
 abbrev pub DividesOtherWay : Type 0
-DividesOtherWay = (m : ℕ) (others xs : List ℕ) → Gives Divides (m ∷ others) (words xs ∷ []) (flags (map (λ x. m % x == 0) xs) ∷ [])
+DividesOtherWay =
+    (m : ℕ) (others xs : List ℕ)
+    → Gives Divides (m ∷ others) (words xs ∷ []) (flags (map (λ x. m % x == 0) xs) ∷ [])
 
 abbrev pub SwitchesOtherWay : Type 0
 SwitchesOtherWay =
-    (others xs : List ℕ) (fs : List Bool) → Gives Switch others (words xs ∷ flags fs ∷ []) (words (flagged fs xs) ∷ words (flagged (map not fs) xs) ∷ [])
+    (others xs : List ℕ) (fs : List Bool)
+    → Gives Switch others (words xs ∷ flags fs ∷ []) (words (flagged fs xs) ∷ words (flagged (map not fs) xs) ∷ [])
 
 -- select: takes a word of each stream for each flag, and writes one
 abbrev pub picked : List Bool → List ℕ → List ℕ → List ℕ
@@ -80,7 +91,9 @@ picked (f ∷ fs) (x ∷ xs) (y ∷ ys) = (if f then y else x) ∷ picked fs xs 
 picked fs xs ys = []
 
 abbrev pub SelectReadsBoth : Type 0
-SelectReadsBoth = (others xs ys : List ℕ) (fs : List Bool) → Gives Select others (words xs ∷ words ys ∷ flags fs ∷ []) (words (picked fs xs ys) ∷ [])
+SelectReadsBoth =
+    (others xs ys : List ℕ) (fs : List Bool)
+    → Gives Select others (words xs ∷ words ys ∷ flags fs ∷ []) (words (picked fs xs ys) ∷ [])
 
 -- filters: each word with the local state of the start
 abbrev pub FiltersKeepNothing : Type 0
@@ -101,4 +114,6 @@ TurnsOfNone = (a b : ℕ) → TakesTurns a b (woven a b)
 -- all numbers of two rising streams, not only those before one ends
 abbrev pub MergeHasAll : Type 0
 MergeHasAll =
-    (xs ys : List ℕ) → IsStrictlyIncreasing xs → IsStrictlyIncreasing ys → (z : ℕ) → Contains xs z ⊎ Contains ys z → Contains (merged xs ys) z
+    (xs ys : List ℕ)
+    → IsStrictlyIncreasing xs → IsStrictlyIncreasing ys → (z : ℕ) → Contains xs z ⊎ Contains ys z
+    → Contains (merged xs ys) z

@@ -32,7 +32,10 @@ module _ (rule : Network → State → Entry → State → Type 0) where
 
   -- no run by the rule brings more to a channel than its capacity, unless the start does
   abbrev pub AlwaysWithinBy : Type 0
-  AlwaysWithinBy = (net : Network) → IsWithin (start standard net) → (E : List Entry) (M : State) → RunBy (rule net) (start standard net) E M → IsWithin M
+  AlwaysWithinBy =
+      (net : Network)
+      → IsWithin (start standard net) → (E : List Entry) (M : State) → RunBy (rule net) (start standard net) E M
+      → IsWithin M
 
 -- a growth while some process may be enabled
 pub record GrowsEarly (net : Network) (M : State) (c to : ℕ) (N : State) : Type 0 where
@@ -80,4 +83,6 @@ stream_taken net E c = (channel_of net c).tokens ++ taken E c
 
 -- such a stream is the tokens taken, then those the channel holds
 abbrev pub TakenTells : Type 0
-TakenTells = (net : Network) (E : List Entry) (M : State) → IsRun standard net E M → (c : ℕ) → stream_taken net E c ≡ taken E c ++ tokens M c
+TakenTells =
+    (net : Network) (E : List Entry) (M : State)
+    → IsRun standard net E M → (c : ℕ) → stream_taken net E c ≡ taken E c ++ tokens M c

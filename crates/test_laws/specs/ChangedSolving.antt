@@ -14,5 +14,6 @@ AllSolvedAreComputed = (net : Network) (X : ℕ → List Token) → Solves stand
 -- approximations from any tokens have the least solution as their limit
 abbrev pub LimitFromAnyIsLeast : Type 0
 LimitFromAnyIsLeast =
-    (net : Network) (A : ℕ → ℕ → List Token) (T : Streams) → ((n c : ℕ) → c < length net.channels → HasEquation standard net (A n) c (A (suc n) c))
+    (net : Network) (A : ℕ → ℕ → List Token) (T : Streams)
+    → ((n c : ℕ) → c < length net.channels → HasEquation standard net (A n) c (A (suc n) c))
     → ((n c : ℕ) → length net.channels ≤ c → A n c ≡ []) → IsLimitOf A T → IsLeastSolution standard net T

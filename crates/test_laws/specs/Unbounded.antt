@@ -9,4 +9,5 @@ use Rattle.kpn_model.specs.Lawful.{NamesPort}
 -- the law of ports for cards with numbers that need not fit
 abbrev pub NamesPortsOfAnyCard : (Card → Option Signature) → Admits → Family → Type 0
 NamesPortsOfAnyCard signature admits kinds =
-    (card : Card) (local : List ℕ) (last : Option Token) → IsSome (signature card) → admits card local last → NamesPort signature card (kinds.answer card local last).act
+    (card : Card) (local : List ℕ) (last : Option Token)
+    → IsSome (signature card) → admits card local last → NamesPort signature card (kinds.answer card local last).act

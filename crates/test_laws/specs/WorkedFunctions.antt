@@ -1,68 +1,63 @@
 -- What processes of the standard kinds, of a filter and of rounds write, worked out by hand.
 use Rattle.std.specs.Prelude.{ℕ, ◌+◌, ◌%◌, ◌^◌, true, false, List, [], ◌∷◌, Option, Some}
-use Rattle.kpn_model.specs.declared.token.Token.{Token}
 use Rattle.kpn_model.specs.declared.token.Sort.TheVariants.{Words, Flags}
 use Rattle.kpn_model.specs.declared.kinds.Card.{Card}
 use Rattle.kpn_model.specs.declared.kinds.Signature.{Signature}
-use Rattle.kpn_standard.specs.declared.kind.Kind.{Kind}
 use Rattle.kpn_standard.specs.declared.kind.Kind.TheVariants.{Count, Sink, Take, Copy, Prefix, Add, Scale, Weave, Merge, Divides, Switch, Select}
 use Rattle.kpn_standard.specs.Locals.{at}
 use Rattle.kpn_standard.specs.Table.{word_and_flag}
-use Rattle.kpn_standard.specs.Signatures.{card_of_kind}
 use Rattle.kpn_standard.specs.Standard.{standard}
 use Rattle.kpn_compute.specs.Filters.{filter_family}
 use Rattle.kpn_rounds.specs.Rounds.{rounds_family}
 use Rattle.kpn_streams.specs.Fed.{Writes}
 use Rattle.kpn_streams.specs.Functions.{words, flags, woven}
+use Rattle.kpn_streams.specs.Kinds.{KindWrites}
 use Rattle.kpn_streams.specs.Joined.{TakesTurns, IsRisingUnion}
 
-abbrev pub Gives : Kind → List ℕ → List (List Token) → List (List Token) → Type 0
-Gives kind args ins outs = Writes standard (card_of_kind kind args) ins outs
-
 abbrev pub CountsFourFromThree : Type 0
-CountsFourFromThree = Gives Count (3 ∷ 4 ∷ 0 ∷ []) [] (words (3 ∷ 4 ∷ 5 ∷ 6 ∷ []) ∷ [])
+CountsFourFromThree = KindWrites Count (3 ∷ 4 ∷ 0 ∷ []) [] (words (3 ∷ 4 ∷ 5 ∷ 6 ∷ []) ∷ [])
 
 abbrev pub SinksAll : Type 0
-SinksAll = Gives Sink (2 ∷ 0 ∷ 0 ∷ []) (words (7 ∷ 8 ∷ 9 ∷ []) ∷ []) ([] ∷ [])
+SinksAll = KindWrites Sink (2 ∷ 0 ∷ 0 ∷ []) (words (7 ∷ 8 ∷ 9 ∷ []) ∷ []) ([] ∷ [])
 
 abbrev pub TakesTwo : Type 0
-TakesTwo = Gives Take (2 ∷ 0 ∷ 0 ∷ []) (words (7 ∷ 8 ∷ 9 ∷ []) ∷ []) (words (7 ∷ 8 ∷ []) ∷ [])
+TakesTwo = KindWrites Take (2 ∷ 0 ∷ 0 ∷ []) (words (7 ∷ 8 ∷ 9 ∷ []) ∷ []) (words (7 ∷ 8 ∷ []) ∷ [])
 
 abbrev pub CopiesToBoth : Type 0
-CopiesToBoth = Gives Copy (0 ∷ 0 ∷ 0 ∷ []) (words (4 ∷ 5 ∷ []) ∷ []) (words (4 ∷ 5 ∷ []) ∷ words (4 ∷ 5 ∷ []) ∷ [])
+CopiesToBoth = KindWrites Copy (0 ∷ 0 ∷ 0 ∷ []) (words (4 ∷ 5 ∷ []) ∷ []) (words (4 ∷ 5 ∷ []) ∷ words (4 ∷ 5 ∷ []) ∷ [])
 
 abbrev pub BeginsWithNine : Type 0
-BeginsWithNine = Gives Prefix (9 ∷ 0 ∷ 0 ∷ []) (words (4 ∷ 5 ∷ []) ∷ []) (words (9 ∷ 4 ∷ 5 ∷ []) ∷ [])
+BeginsWithNine = KindWrites Prefix (9 ∷ 0 ∷ 0 ∷ []) (words (4 ∷ 5 ∷ []) ∷ []) (words (9 ∷ 4 ∷ 5 ∷ []) ∷ [])
 
 -- the second sum is 2^64; the third word of the first stream has no partner
 abbrev pub AddsAndWraps : Type 0
-AddsAndWraps = Gives Add (0 ∷ 0 ∷ 0 ∷ []) (words (1 ∷ 18446744073709551615 ∷ 3 ∷ []) ∷ words (10 ∷ 1 ∷ []) ∷ []) (words (11 ∷ 0 ∷ []) ∷ [])
+AddsAndWraps = KindWrites Add (0 ∷ 0 ∷ 0 ∷ []) (words (1 ∷ 18446744073709551615 ∷ 3 ∷ []) ∷ words (10 ∷ 1 ∷ []) ∷ []) (words (11 ∷ 0 ∷ []) ∷ [])
 
 -- three times 2^63 is 2^64 + 2^63
 abbrev pub ScalesAndWraps : Type 0
-ScalesAndWraps = Gives Scale (3 ∷ 0 ∷ 0 ∷ []) (words (5 ∷ 9223372036854775808 ∷ []) ∷ []) (words (15 ∷ 9223372036854775808 ∷ []) ∷ [])
+ScalesAndWraps = KindWrites Scale (3 ∷ 0 ∷ 0 ∷ []) (words (5 ∷ 9223372036854775808 ∷ []) ∷ []) (words (15 ∷ 9223372036854775808 ∷ []) ∷ [])
 
 -- two and one in turn; the first stream ends within its turn, and 30 is left
 abbrev pub WeavesTwoAndOne : Type 0
 WeavesTwoAndOne =
-    Gives Weave (2 ∷ 1 ∷ 0 ∷ []) (words (1 ∷ 2 ∷ 3 ∷ 4 ∷ 5 ∷ []) ∷ words (10 ∷ 20 ∷ 30 ∷ []) ∷ []) (words (1 ∷ 2 ∷ 10 ∷ 3 ∷ 4 ∷ 20 ∷ 5 ∷ []) ∷ [])
+    KindWrites Weave (2 ∷ 1 ∷ 0 ∷ []) (words (1 ∷ 2 ∷ 3 ∷ 4 ∷ 5 ∷ []) ∷ words (10 ∷ 20 ∷ 30 ∷ []) ∷ []) (words (1 ∷ 2 ∷ 10 ∷ 3 ∷ 4 ∷ 20 ∷ 5 ∷ []) ∷ [])
 
 -- 3 comes once; the second stream ends, so 5 and 9 are not written
 abbrev pub MergesUpToFour : Type 0
-MergesUpToFour = Gives Merge (0 ∷ 0 ∷ 0 ∷ []) (words (1 ∷ 3 ∷ 5 ∷ 9 ∷ []) ∷ words (2 ∷ 3 ∷ 4 ∷ []) ∷ []) (words (1 ∷ 2 ∷ 3 ∷ 4 ∷ []) ∷ [])
+MergesUpToFour = KindWrites Merge (0 ∷ 0 ∷ 0 ∷ []) (words (1 ∷ 3 ∷ 5 ∷ 9 ∷ []) ∷ words (2 ∷ 3 ∷ 4 ∷ []) ∷ []) (words (1 ∷ 2 ∷ 3 ∷ 4 ∷ []) ∷ [])
 
 abbrev pub ThreeDivides : Type 0
-ThreeDivides = Gives Divides (3 ∷ 0 ∷ 0 ∷ []) (words (9 ∷ 10 ∷ 0 ∷ []) ∷ []) (flags (true ∷ false ∷ true ∷ []) ∷ [])
+ThreeDivides = KindWrites Divides (3 ∷ 0 ∷ 0 ∷ []) (words (9 ∷ 10 ∷ 0 ∷ []) ∷ []) (flags (true ∷ false ∷ true ∷ []) ∷ [])
 
 -- the fourth word has no flag
 abbrev pub SwitchesByFlags : Type 0
 SwitchesByFlags =
-    Gives Switch (0 ∷ 0 ∷ 0 ∷ []) (words (1 ∷ 2 ∷ 3 ∷ 4 ∷ []) ∷ flags (true ∷ false ∷ true ∷ []) ∷ []) (words (2 ∷ []) ∷ words (1 ∷ 3 ∷ []) ∷ [])
+    KindWrites Switch (0 ∷ 0 ∷ 0 ∷ []) (words (1 ∷ 2 ∷ 3 ∷ 4 ∷ []) ∷ flags (true ∷ false ∷ true ∷ []) ∷ []) (words (2 ∷ []) ∷ words (1 ∷ 3 ∷ []) ∷ [])
 
 -- the last flag asks for a third word of the first stream
 abbrev pub SelectsByFlags : Type 0
 SelectsByFlags =
-    Gives Select (0 ∷ 0 ∷ 0 ∷ []) (words (1 ∷ 2 ∷ []) ∷ words (10 ∷ 20 ∷ []) ∷ flags (true ∷ false ∷ false ∷ true ∷ false ∷ []) ∷ [])
+    KindWrites Select (0 ∷ 0 ∷ 0 ∷ []) (words (1 ∷ 2 ∷ []) ∷ words (10 ∷ 20 ∷ []) ∷ flags (true ∷ false ∷ false ∷ true ∷ false ∷ []) ∷ [])
     (words (10 ∷ 1 ∷ 2 ∷ 20 ∷ []) ∷ [])
 
 -- a filter that keeps and writes the total so far, modulo 2^64
