@@ -40,10 +40,10 @@ fn push_columns<O: Sink>(
     written: &mut Vec<Written>,
     table: &TableOutlet<O>,
 ) -> Result<(), AllocError> {
-    for place in 0..table.width() {
+    for lane in table.lanes() {
         written.push(Written {
-            tokens: table.tokens(place),
-            clipped: table.clipped(place),
+            tokens: lane.tokens(),
+            clipped: lane.clipped(),
         })?;
     }
     Ok(())
@@ -120,9 +120,9 @@ pub(crate) fn say_token<R: Eprint, F: Computes, I: Source, O: Sink>(
     let Some(table) = table_at(served, k) else {
         return;
     };
-    for place in 0..table.width() {
-        if table.is_misfit(place) {
-            say_misfit_at(rt, output_at(outputs, k, place), table.tokens(place));
+    for (place, lane) in table.lanes().iter().enumerate() {
+        if lane.is_misfit() {
+            say_misfit_at(rt, output_at(outputs, k, place), lane.tokens());
         }
     }
 }
@@ -144,8 +144,8 @@ pub(crate) fn say_apart<R: Eprint, F: Computes, I: Source, O: Sink>(
     let Some(table) = table_at(served, k) else {
         return;
     };
-    for place in 0..table.width() {
-        if table.tokens_waiting(place) > MOST_AHEAD {
+    for (place, lane) in table.lanes().iter().enumerate() {
+        if lane.waiting() > MOST_AHEAD {
             say_apart_at(rt, output_at(outputs, k, place));
         }
     }

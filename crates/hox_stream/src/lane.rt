@@ -12,7 +12,7 @@ use std::marker::Model;
 
 /// A column: a channel, and its tokens that wait for their rows.
 #[derive(Drop)]
-pub(crate) struct Lane {
+pub struct Lane {
     channel: usize,
     decimals: Decimals,
     layout: Layout,
@@ -45,31 +45,36 @@ impl Lane {
         }
     }
 
-    pub(crate) fn channel(&self) -> usize
+    /// Returns the number of the channel.
+    pub fn channel(&self) -> usize
         ensures { result ≡ self.now.head.channel }
     {
         self.channel
     }
 
-    pub(crate) fn tokens(&self) -> u64
+    /// Returns how many tokens the column took, at most `u64::MAX`. After a failed write, some may be lost.
+    pub fn tokens(&self) -> u64
         ensures { result ≡ self.now.tokens }
     {
         self.tokens
     }
 
-    pub(crate) fn clipped(&self) -> u64
+    /// Returns how many tokens were clipped to the nearest value that fits, at most `u64::MAX`.
+    pub fn clipped(&self) -> u64
         ensures { result ≡ self.now.clipped }
     {
         self.clipped
     }
 
-    pub(crate) fn waiting(&self) -> usize
+    /// Returns how many tokens wait for their rows.
+    pub fn waiting(&self) -> usize
         ensures { result ≡ length self.now.waiting }
     {
         self.waiting.len()
     }
 
-    pub(crate) fn is_misfit(&self) -> bool
+    /// Returns whether a token did not fit, and so was not taken.
+    pub fn is_misfit(&self) -> bool
         ensures { result ≡ self.now.is_misfit }
     {
         self.is_misfit

@@ -24,6 +24,7 @@ pub use cutting::{LONGEST_RECORD, Refusal};
 pub use exits::Exits;
 pub use finish::StreamFinish;
 pub use inlet::Inlet;
+pub use lane::Lane;
 pub use outlet::Outlet;
 pub use serving::{EndedStream, LaidEnds, LaidOut, LaidTable, serve};
 pub use starting::{NameFault, OpenStream, StreamFault, open_stream};

@@ -89,36 +89,18 @@ impl<S: Sink> TableOutlet<S> {
         self.lanes.len()
     }
 
-    /// Returns the number of a column's channel.
-    pub fn channel(&self, place: usize) -> usize
-        requires { place < length self.now.lanes }
-        ensures { result ≡ (lane_at self.now place).head.channel }
+    /// Returns the columns, in order.
+    pub fn lanes(&self) -> &[Lane]
+        ensures { result.now ≡ self.now.lanes }
     {
-        self.lanes[place].channel()
+        self.lanes.as_slice()
     }
 
-    /// Returns how many tokens a column took, at most `u64::MAX`. After a failed write, some may be lost.
-    pub fn tokens(&self, place: usize) -> u64
+    pub(crate) fn lane(&self, place: usize) -> &Lane
         requires { place < length self.now.lanes }
-        ensures { result ≡ (lane_at self.now place).tokens }
+        ensures { result.now ≡ lane_at self.now place }
     {
-        self.lanes[place].tokens()
-    }
-
-    /// Returns how many tokens of a column were clipped to the nearest value that fits, at most `u64::MAX`.
-    pub fn clipped(&self, place: usize) -> u64
-        requires { place < length self.now.lanes }
-        ensures { result ≡ (lane_at self.now place).clipped }
-    {
-        self.lanes[place].clipped()
-    }
-
-    /// Returns how many tokens of a column wait for their rows.
-    pub fn tokens_waiting(&self, place: usize) -> usize
-        requires { place < length self.now.lanes }
-        ensures { result ≡ length (lane_at self.now place).waiting }
-    {
-        self.lanes[place].waiting()
+        &self.lanes[place]
     }
 
     /// Returns how many bytes wait to be written: at most 4,096.
@@ -173,21 +155,14 @@ impl<S: Sink> TableOutlet<S> {
         requires { place < length self.now.lanes }
         ensures { IfErr result (IsTableFault self.now) }
     {
-        if self.is_misfit(place) {
+        let lane = self.lane(place);
+        if lane.is_misfit() {
             Err(TableFault::Misfit)
-        } else if self.tokens_waiting(place) > MOST_AHEAD {
+        } else if lane.waiting() > MOST_AHEAD {
             Err(TableFault::Apart)
         } else {
             Ok(())
         }
-    }
-
-    /// Returns whether a token of a column did not fit, and so was not taken.
-    pub fn is_misfit(&self, place: usize) -> bool
-        requires { place < length self.now.lanes }
-        ensures { result ≡ (lane_at self.now place).is_misfit }
-    {
-        self.lanes[place].is_misfit()
     }
 
     fn take(&mut self, place: usize, tokens: &[Token]) -> Result<(), AllocError>

@@ -23,7 +23,7 @@ fn tell_lane<B: Body, S: Sink>(
     requires { place < length table.old.lanes }
     ensures { TellsColumn (family B.Kinds.Kinds) flow.old flow.new table.old table.new place result }
 {
-    let channel = table.channel(place);
+    let channel = table.lane(place).channel();
     if !flow.is_output(channel) {
         return Ok(false);
     }

@@ -127,8 +127,8 @@ fn tokens_to_tables<O: Sink>(tables: &[TableOutlet<O>]) -> u64 {
 
 fn tokens_to<O: Sink>(table: &TableOutlet<O>) -> u64 {
     let mut tokens: u64 = 0;
-    for place in 0..table.width() {
-        tokens = tokens.saturating_add(table.tokens(place));
+    for lane in table.lanes() {
+        tokens = tokens.saturating_add(lane.tokens());
     }
     tokens
 }

@@ -97,11 +97,8 @@ fn paired<'a, R: Abort>(
 
 /// The tokens that a column took, and those of them that were clipped.
 fn counted(table: &TableOutlet<Vec<u8>>, place: usize) -> Option<(u64, u64)> {
-    if place < table.width() {
-        Some((table.tokens(place), table.clipped(place)))
-    } else {
-        None
-    }
+    let lane = table.lanes().get(place)?;
+    Some((lane.tokens(), lane.clipped()))
 }
 
 /// Two channels as the rows of one table.

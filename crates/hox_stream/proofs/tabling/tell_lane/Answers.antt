@@ -1,10 +1,11 @@
 -- What is drained is taken into a column.
-use Rattle.std.proofs.Common.{◌≡◌, ℕ, [], true, map, take, refl, sym, ◌∙◌, subst}
+use Rattle.std.proofs.Common.{◌≡◌, ℕ, [], true, ap, map, take, refl, sym, ◌∙◌, subst}
 use Rattle.kpn_model.specs.Network.{family_of}
 use Rattle.kpn_flow.specs.Events.{Drained, Flows}
 use Rattle.kpn_flow.specs.Flows.{is_among}
 use Rattle.hox_stream.specs.Streams.{channel_at}
 use Rattle.hox_stream.specs.Tables.{only_at}
+use Rattle.hox_stream.specs.Views.{LaneView}
 use Rattle.hox_stream.proofs.Flowed.{drained_at_ends, same_net_none, same_net_of}
 use Rattle.hox_stream.proofs.Tabled.{only_none, writes_table_none}
 use Rattle.hox_stream.proofs.tabling.tell_lane.Goals as goal
@@ -12,13 +13,14 @@ use Rattle.hox_stream.proofs.tabling.tell_lane.Goals as goal
 pub returns-in-Ok : goal.returns-in-Ok
 returns-in-Ok g c =
     let channel = channel_at c.args.table.now c.args.place in
-    let output : is_among c.args.flow.now.outputs channel ≡ true = subst (λ n. is_among c.args.flow.now.outputs n ≡ true) c.channel-channel.ensures (sym c.is_output.ensures ∙ c.if-not-is_output.false) in
+    let same : c.channel-channel.result ≡ channel = c.channel-channel.ensures ∙ ap (λ (lane : LaneView). lane.head.channel) c.lane.ensures in
+    let output : is_among c.args.flow.now.outputs channel ≡ true = subst (λ n. is_among c.args.flow.now.outputs n ≡ true) same (sym c.is_output.ensures ∙ c.if-not-is_output.false) in
     record {
       tells = record {
         same = same_net_of _ _ c.drain_into-count.ensures.same;
         tokens = take c.drain_into-count.result c.drain_into-count.new.buffer;
         writes = c.write.ensures.writes;
-        flows = rw c.channel-channel.ensures at c.drain_into-count.ensures.drained;
+        flows = rw same at c.drain_into-count.ensures.drained;
         at_ends = drained_at_ends (is_among c.args.flow.now.inputs) (is_among c.args.flow.now.outputs) channel (take c.drain_into-count.result c.drain_into-count.new.buffer) output;
       };
       same = c.drain_into-count.ensures.same;
@@ -29,13 +31,14 @@ returns-in-Ok g c =
 pub returns-in-Err : goal.returns-in-Err
 returns-in-Err g c =
     let channel = channel_at c.args.table.now c.args.place in
-    let output : is_among c.args.flow.now.outputs channel ≡ true = subst (λ n. is_among c.args.flow.now.outputs n ≡ true) c.channel-channel.ensures (sym c.is_output.ensures ∙ c.if-not-is_output.false) in
+    let same : c.channel-channel.result ≡ channel = c.channel-channel.ensures ∙ ap (λ (lane : LaneView). lane.head.channel) c.lane.ensures in
+    let output : is_among c.args.flow.now.outputs channel ≡ true = subst (λ n. is_among c.args.flow.now.outputs n ≡ true) same (sym c.is_output.ensures ∙ c.if-not-is_output.false) in
     record {
       tells = record {
         same = same_net_of _ _ c.drain_into-count.ensures.same;
         tokens = take c.drain_into-count.result c.drain_into-count.new.buffer;
         writes = c.write.ensures.writes;
-        flows = rw c.channel-channel.ensures at c.drain_into-count.ensures.drained;
+        flows = rw same at c.drain_into-count.ensures.drained;
         at_ends = drained_at_ends (is_among c.args.flow.now.inputs) (is_among c.args.flow.now.outputs) channel (take c.drain_into-count.result c.drain_into-count.new.buffer) output;
       };
       same = c.drain_into-count.ensures.same;
