@@ -1,9 +1,9 @@
 //! Prepares the network of a description for a request.
-ghost use Rattle.std.specs.Prelude.{◌≡◌, ◌+◌, OnOk, IfErr, MatchResult};
+ghost use Rattle.std.specs.Prelude.{◌≡◌, ◌+◌, OnOk, IfErr};
 ghost use Rattle.kpn_model.specs.Valid.{IsValid};
 ghost use Rattle.kpn_network.specs.Parts.{network_of};
 ghost use Rattle.kpn_front.specs.Loading.{ConsumesAtMost, longest};
-ghost use Rattle.hox_network.specs.Preparing.{GivesNet, IsFault, Prepares, Serves, channel_names};
+ghost use Rattle.hox_network.specs.Preparing.{GivesNet, IsFault, Prepares, Serves};
 
 use crate::described::load_by_ports;
 use crate::names::channel_names;
@@ -11,7 +11,7 @@ use crate::parts::parts_of;
 use crate::presets::{FileFault, greatest_budget, preset, set_budget};
 use crate::request::{Fault, Request};
 use kpn_front::Source;
-use kpn_model::{Kinds, Listed, Text};
+use kpn_model::Kinds;
 use kpn_network::{Net, Parts};
 use std::alloc::Global;
 
@@ -38,11 +38,9 @@ fn prepare_net<K: Kinds>(alloc: Global, request: &Request, net: &Net<K>) -> Resu
     ensures { GivesNet request.now net.now result }
 {
     net.assure_valid();
-    let Ok(mut parts) = parts_of(alloc, net) else {
-        return Err(Fault::Memory);
-    };
+    let mut parts = parts_of(alloc, net)?;
     prepare_parts(alloc, request, net, &mut parts)?;
-    Net::of_parts(alloc, parts).map_err(|_| Fault::Memory)
+    Ok(Net::of_parts(alloc, parts)?)
 }
 
 fn prepare_parts<K: Kinds>(
@@ -59,7 +57,7 @@ fn prepare_parts<K: Kinds>(
 {
     if let Err(stop) = preset::<K>(alloc, parts, request.tokens.as_slice()) {
         return match stop.fault {
-            FileFault::NoChannel => Err(Fault::NoHolder(stop.file, names_in(alloc, net)?)),
+            FileFault::NoChannel => Err(Fault::NoHolder(stop.file, channel_names(alloc, net)?)),
             _ => Err(Fault::Tokens(stop)),
         };
     }
@@ -69,10 +67,4 @@ fn prepare_parts<K: Kinds>(
         }
     }
     Ok(())
-}
-
-fn names_in<K: Kinds>(alloc: Global, net: &Net<K>) -> Result<Listed<Text>, Fault>
-    ensures { MatchResult result (λ names. names ≡ channel_names net.now) (λ e. e ≡ Fault.Memory) }
-{
-    channel_names(alloc, net).map_err(|_| Fault::Memory)
 }

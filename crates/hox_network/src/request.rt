@@ -7,6 +7,7 @@ use kpn_front::{ExitStatus, Refused};
 use kpn_model::{Listed, Text};
 use kpn_sketch::NetFault;
 use kpn_tokens::{Decimals, Layout};
+use std::alloc::AllocError;
 
 /// The tokens of a file for the channel of this name: their bytes and layout, and the samples per second if
 /// the file states them.
@@ -63,6 +64,16 @@ pub enum Fault {
 pub enum NoResult {
     Memory,
     Lost,
+}
+
+impl From<AllocError> for Fault {
+    ghost use Rattle.hox_network.specs.declared.request.Fault.{Fault};
+
+    ghost from_gives = { λ _ fault. fault ≡ Fault.Memory };
+
+    fn from(_error: AllocError) -> Fault {
+        Fault::Memory
+    }
 }
 
 impl Fault {

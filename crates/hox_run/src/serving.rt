@@ -1,5 +1,5 @@
 //! Runs a described network as requested.
-ghost use Rattle.std.specs.Prelude.{◌≡◌, ◌<◌, ◌+◌, ◌⊎◌, ℕ, IfOk, IfErr, IfNone, IfSome, MatchResult, None};
+ghost use Rattle.std.specs.Prelude.{◌≡◌, ◌<◌, ◌+◌, ◌⊎◌, ℕ, IfOk, IfErr, IfNone, IfSome, None};
 ghost use Rattle.std.specs.List.{All};
 ghost use Rattle.kpn_model.specs.Network.{number_of_channel, Network as NetworkV};
 ghost use Rattle.kpn_model.specs.Families.{family};
@@ -15,7 +15,7 @@ use crate::telling::Told;
 use hox_network::{Fault, NoResult, Request, StreamAs, channel_names, prepare};
 use kpn_compute::Computes;
 use kpn_front::Source;
-use kpn_model::{Kinds, Listed, Text};
+use kpn_model::Kinds;
 use kpn_network::Net;
 use kpn_tokens::{Decimals, Layout};
 use std::alloc::Global;
@@ -84,7 +84,7 @@ fn shown_in<K: Kinds>(
 {
     match channels_in(alloc, net, texts) {
         Ok(shown) => Ok(shown),
-        Err(Missing::Channel(k)) => Err(Fault::NoShown(k, names_in(alloc, net)?)),
+        Err(Missing::Channel(k)) => Err(Fault::NoShown(k, channel_names(alloc, net)?)),
         Err(Missing::Memory) => Err(Fault::Memory),
     }
 }
@@ -100,7 +100,7 @@ fn outputs_in<K: Kinds>(
 {
     match channels_in(alloc, net, texts) {
         Ok(outputs) => Ok(outputs),
-        Err(Missing::Channel(k)) => Err(Fault::NoOutput(k, names_in(alloc, net)?)),
+        Err(Missing::Channel(k)) => Err(Fault::NoOutput(k, channel_names(alloc, net)?)),
         Err(Missing::Memory) => Err(Fault::Memory),
     }
 }
@@ -143,10 +143,4 @@ fn channel_of<K: Kinds, W: Copy>(net: &Net<K>, text: &StreamAs<W>) -> Option<Cha
         channel,
         written: text.written,
     })
-}
-
-fn names_in<K: Kinds>(alloc: Global, net: &Net<K>) -> Result<Listed<Text>, Fault>
-    ensures { MatchResult result (λ names. names ≡ channel_names net.now) (λ e. e ≡ Fault.Memory) }
-{
-    channel_names(alloc, net).map_err(|_| Fault::Memory)
 }
