@@ -2,5 +2,5 @@
 use Rattle.std.proofs.Common.{rules}
 use Rattle.hox_run.proofs.serving.outputs_in.Goals as goal
 
-pub returns-in_ok-channel_names-in-Err-Channel-clause-fault : goal.returns-in_ok-names_in-in-Err-Channel-clause-fault
+pub returns-in_ok-channel_names-in-Err-Channel-clause-fault : goal.returns-in_ok-channel_names-in-Err-Channel-clause-fault
 returns-in_ok-channel_names-in-Err-Channel-clause-fault g c = search rules
