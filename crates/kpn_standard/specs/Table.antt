@@ -5,6 +5,7 @@ use Rattle.std.specs.Str.{bytes_eq}
 use Rattle.kpn_model.specs.declared.token.Sort.{Sort}
 use Rattle.kpn_model.specs.declared.token.Sort.TheVariants.{Words, Flags}
 use Rattle.kpn_standard.specs.declared.kind.Kind.{Kind}
+use Rattle.kpn_standard.specs.declared.kind.Row.{Row as CodeRow}
 use Rattle.kpn_standard.specs.declared.kind.Kind.TheVariants.{Count, Sink, Take, Copy, Prefix, Add, Scale, Weave, Merge, Divides, Switch, Select}
 
 abbrev pub no_port : List (Option Sort)
@@ -34,6 +35,10 @@ pub record Row : Type 0 where
 
 abbrev pub tabled : ℕ → List ℕ → ℕ → List (Option Sort) → List (Option Sort) → Row
 tabled number name arguments ins outs = record { number = number; name = name; arguments = arguments; ins = ins; outs = outs }
+
+-- a row of the code, without where its name lies in memory
+abbrev pub plain_row : CodeRow → Row
+plain_row row = tabled row.number row.name.now row.arguments row.ins row.outs
 
 abbrev pub row_of : Kind → Row
 row_of Count = tabled 0 (codes "count") 2 no_port one_word

@@ -1,8 +1,7 @@
 //! The kinds that compute words: each function returns its kind's answer.
-ghost use Rattle.std.specs.Prelude.{◌≡◌, IsSome};
+ghost use Rattle.std.specs.Prelude.{◌≡◌};
 ghost use Rattle.kpn_standard.specs.Standard.{standard};
-ghost use Rattle.kpn_standard.specs.Signatures.{card_of_kind, signature};
-ghost use Rattle.kpn_standard.specs.Admitted.{Admitted};
+ghost use Rattle.kpn_standard.specs.Signatures.{card_of_kind};
 
 use crate::kind::Kind;
 use crate::token::{reads, word, writes};
@@ -10,8 +9,6 @@ use kpn_model::{Answer, Local, Token};
 
 /// Reads a word of each input, 0 first, and writes their sum modulo 2^64, forever.
 pub fn add(args: [u64; 3], local: Local, last: Option<Token>) -> Answer
-    requires signed { IsSome (signature (card_of_kind Kind.Add args)) }
-    requires admitted { Admitted (card_of_kind Kind.Add args) local last }
     ensures { result ≡ standard.answer (card_of_kind Kind.Add args) local last }
 {
     match local[0] {
@@ -26,8 +23,6 @@ pub fn add(args: [u64; 3], local: Local, last: Option<Token>) -> Answer
 
 /// Reads a word, and writes its product with `args[0]` modulo 2^64, forever.
 pub fn scale(args: [u64; 3], local: Local, last: Option<Token>) -> Answer
-    requires signed { IsSome (signature (card_of_kind Kind.Scale args)) }
-    requires admitted { Admitted (card_of_kind Kind.Scale args) local last }
     ensures { result ≡ standard.answer (card_of_kind Kind.Scale args) local last }
 {
     match local[0] {

@@ -1,7 +1,7 @@
 //! The kinds that write what they read: each function returns its kind's answer.
-ghost use Rattle.std.specs.Prelude.{◌≡◌, IsSome};
+ghost use Rattle.std.specs.Prelude.{◌≡◌};
 ghost use Rattle.kpn_standard.specs.Standard.{standard};
-ghost use Rattle.kpn_standard.specs.Signatures.{card_of_kind, signature};
+ghost use Rattle.kpn_standard.specs.Signatures.{card_of_kind};
 ghost use Rattle.kpn_standard.specs.Admitted.{Admitted};
 
 use crate::kind::Kind;
@@ -10,8 +10,7 @@ use kpn_model::{Answer, Local, Token};
 
 /// Reads and writes `args[0]` words, then stops.
 pub fn take(args: [u64; 3], local: Local, last: Option<Token>) -> Answer
-    requires signed { IsSome (signature (card_of_kind Kind.Take args)) }
-    requires admitted { Admitted (card_of_kind Kind.Take args) local last }
+    requires { Admitted (card_of_kind Kind.Take args) local last }
     ensures { result ≡ standard.answer (card_of_kind Kind.Take args) local last }
 {
     let i = local[1];
@@ -26,8 +25,6 @@ pub fn take(args: [u64; 3], local: Local, last: Option<Token>) -> Answer
 
 /// Reads a word, and writes it to output 0, then to output 1, forever.
 pub fn copy(args: [u64; 3], local: Local, last: Option<Token>) -> Answer
-    requires signed { IsSome (signature (card_of_kind Kind.Copy args)) }
-    requires admitted { Admitted (card_of_kind Kind.Copy args) local last }
     ensures { result ≡ standard.answer (card_of_kind Kind.Copy args) local last }
 {
     match local[0] {
@@ -39,8 +36,6 @@ pub fn copy(args: [u64; 3], local: Local, last: Option<Token>) -> Answer
 
 /// Writes the word `args[0]`, then reads and writes forever.
 pub fn prefix(args: [u64; 3], local: Local, last: Option<Token>) -> Answer
-    requires signed { IsSome (signature (card_of_kind Kind.Prefix args)) }
-    requires admitted { Admitted (card_of_kind Kind.Prefix args) local last }
     ensures { result ≡ standard.answer (card_of_kind Kind.Prefix args) local last }
 {
     match local[0] {

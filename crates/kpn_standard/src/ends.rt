@@ -2,7 +2,6 @@
 ghost use Rattle.std.specs.Prelude.{◌≡◌, IsSome};
 ghost use Rattle.kpn_standard.specs.Standard.{standard};
 ghost use Rattle.kpn_standard.specs.Signatures.{card_of_kind, signature};
-ghost use Rattle.kpn_standard.specs.Admitted.{Admitted};
 
 use crate::kind::Kind;
 use crate::token::{reads, stops, writes};
@@ -10,8 +9,7 @@ use kpn_model::{Answer, Local, Token};
 
 /// Writes the `args[1]` words from `args[0]` on, then stops.
 pub fn count(args: [u64; 3], local: Local, last: Option<Token>) -> Answer
-    requires signed { IsSome (signature (card_of_kind Kind.Count args)) }
-    requires admitted { Admitted (card_of_kind Kind.Count args) local last }
+    requires { IsSome (signature (card_of_kind Kind.Count args)) }
     ensures { result ≡ standard.answer (card_of_kind Kind.Count args) local last }
 {
     let [from, n, _] = args;
@@ -25,8 +23,6 @@ pub fn count(args: [u64; 3], local: Local, last: Option<Token>) -> Answer
 
 /// Reads `args[0]` words, then stops.
 pub fn sink(args: [u64; 3], local: Local, last: Option<Token>) -> Answer
-    requires signed { IsSome (signature (card_of_kind Kind.Sink args)) }
-    requires admitted { Admitted (card_of_kind Kind.Sink args) local last }
     ensures { result ≡ standard.answer (card_of_kind Kind.Sink args) local last }
 {
     let i = local[0];

@@ -10,8 +10,7 @@ use kpn_model::{Answer, Local, Token};
 
 /// Reads a word, and writes whether `args[0]` divides it, forever.
 pub fn divides(args: [u64; 3], local: Local, last: Option<Token>) -> Answer
-    requires signed { IsSome (signature (card_of_kind Kind.Divides args)) }
-    requires admitted { Admitted (card_of_kind Kind.Divides args) local last }
+    requires { IsSome (signature (card_of_kind Kind.Divides args)) }
     ensures { result ≡ standard.answer (card_of_kind Kind.Divides args) local last }
 {
     match local[0] {
@@ -26,8 +25,7 @@ pub fn divides(args: [u64; 3], local: Local, last: Option<Token>) -> Answer
 /// Reads a flag of input 1, then a word of input 0, and writes the word to output 1 if the flag is true, else
 /// to output 0, forever.
 pub fn switch(args: [u64; 3], local: Local, last: Option<Token>) -> Answer
-    requires signed { IsSome (signature (card_of_kind Kind.Switch args)) }
-    requires admitted { Admitted (card_of_kind Kind.Switch args) local last }
+    requires { Admitted (card_of_kind Kind.Switch args) local last }
     ensures { result ≡ standard.answer (card_of_kind Kind.Switch args) local last }
 {
     match local[0] {
@@ -42,8 +40,6 @@ pub fn switch(args: [u64; 3], local: Local, last: Option<Token>) -> Answer
 /// Reads a flag of input 2, then a word, of input 1 if the flag is true, else of input 0, and writes the word,
 /// forever.
 pub fn select(args: [u64; 3], local: Local, last: Option<Token>) -> Answer
-    requires signed { IsSome (signature (card_of_kind Kind.Select args)) }
-    requires admitted { Admitted (card_of_kind Kind.Select args) local last }
     ensures { result ≡ standard.answer (card_of_kind Kind.Select args) local last }
 {
     match local[0] {

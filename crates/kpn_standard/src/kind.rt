@@ -1,6 +1,6 @@
 //! The table of the standard kinds.
 ghost use Rattle.std.specs.Prelude.{◌≡◌, Some, IfSome};
-ghost use Rattle.kpn_standard.specs.Table.{row_of, numbered, called};
+ghost use Rattle.kpn_standard.specs.Table.{row_of, plain_row, tabled, numbered, called};
 ghost use Rattle.kpn_standard.specs.Signatures.{accepts, named};
 
 use kpn_model::Sort;
@@ -34,44 +34,42 @@ pub enum Kind {
     Select,
 }
 
+/// The sorts of a kind's inputs, or of its outputs; `None` where there is no port.
+pub type Ports = [Option<Sort>; 3];
+
 /// A row of the table: number in cards, name, number of arguments, ports. Unused arguments are 0.
 #[derive(Clone, Copy, Debug)]
 pub struct Row {
     pub number: u16,
     pub name: &'static str,
     pub arguments: usize,
-    pub ins: [Option<Sort>; 3],
-    pub outs: [Option<Sort>; 3],
+    pub ins: Ports,
+    pub outs: Ports,
 }
 
 const WORDS: Option<Sort> = Some(Sort::Words);
 
 const FLAGS: Option<Sort> = Some(Sort::Flags);
 
-const NO_PORT: [Option<Sort>; 3] = [None, None, None];
+const NO_PORT: Ports = [None, None, None];
 
-const ONE_WORD: [Option<Sort>; 3] = [WORDS, None, None];
+const ONE_WORD: Ports = [WORDS, None, None];
 
-const TWO_WORDS: [Option<Sort>; 3] = [WORDS, WORDS, None];
+const TWO_WORDS: Ports = [WORDS, WORDS, None];
 
-const ONE_FLAG: [Option<Sort>; 3] = [FLAGS, None, None];
+const ONE_FLAG: Ports = [FLAGS, None, None];
 
-const WORD_AND_FLAG: [Option<Sort>; 3] = [WORDS, FLAGS, None];
+const WORD_AND_FLAG: Ports = [WORDS, FLAGS, None];
 
-const TWO_WORDS_AND_FLAG: [Option<Sort>; 3] = [WORDS, WORDS, FLAGS];
+const TWO_WORDS_AND_FLAG: Ports = [WORDS, WORDS, FLAGS];
 
 impl Kind {
     /// Returns the kind's row of the table.
     pub fn row(self) -> Row
-        ensures number { result.number ≡ (row_of self).number }
-        ensures name { result.name.now ≡ (row_of self).name }
-        ensures arguments { result.arguments ≡ (row_of self).arguments }
-        ensures ins { result.ins ≡ (row_of self).ins }
-        ensures outs { result.outs ≡ (row_of self).outs }
+        ensures is { plain_row result ≡ row_of self }
         ensures means { named result.name.now ≡ Some (result.number, result.arguments) }
     {
-        let (number, name, arguments) = self.heading();
-        let (ins, outs) = self.ports();
+        let (number, name, arguments, ins, outs) = self.cells();
         Row {
             number,
             name,
@@ -81,40 +79,22 @@ impl Kind {
         }
     }
 
-    fn heading(self) -> (u16, &'static str, usize)
-        ensures number { result.0 ≡ (row_of self).number }
-        ensures name { result.1.now ≡ (row_of self).name }
-        ensures arguments { result.2 ≡ (row_of self).arguments }
+    fn cells(self) -> (u16, &'static str, usize, Ports, Ports)
+        ensures { tabled result.0 result.1.now result.2 result.3 result.4 ≡ row_of self }
     {
         match self {
-            Kind::Count => (0, "count", 2),
-            Kind::Sink => (1, "sink", 1),
-            Kind::Take => (2, "take", 1),
-            Kind::Copy => (3, "copy", 0),
-            Kind::Prefix => (4, "prefix", 1),
-            Kind::Add => (5, "add", 0),
-            Kind::Scale => (6, "scale", 1),
-            Kind::Weave => (7, "weave", 2),
-            Kind::Merge => (8, "merge", 0),
-            Kind::Divides => (9, "divides", 1),
-            Kind::Switch => (10, "switch", 0),
-            Kind::Select => (11, "select", 0),
-        }
-    }
-
-    fn ports(self) -> ([Option<Sort>; 3], [Option<Sort>; 3])
-        ensures ins { result.0 ≡ (row_of self).ins }
-        ensures outs { result.1 ≡ (row_of self).outs }
-    {
-        match self {
-            Kind::Count => (NO_PORT, ONE_WORD),
-            Kind::Sink => (ONE_WORD, NO_PORT),
-            Kind::Take | Kind::Prefix | Kind::Scale => (ONE_WORD, ONE_WORD),
-            Kind::Copy => (ONE_WORD, TWO_WORDS),
-            Kind::Add | Kind::Weave | Kind::Merge => (TWO_WORDS, ONE_WORD),
-            Kind::Divides => (ONE_WORD, ONE_FLAG),
-            Kind::Switch => (WORD_AND_FLAG, TWO_WORDS),
-            Kind::Select => (TWO_WORDS_AND_FLAG, ONE_WORD),
+            Kind::Count => (0, "count", 2, NO_PORT, ONE_WORD),
+            Kind::Sink => (1, "sink", 1, ONE_WORD, NO_PORT),
+            Kind::Take => (2, "take", 1, ONE_WORD, ONE_WORD),
+            Kind::Copy => (3, "copy", 0, ONE_WORD, TWO_WORDS),
+            Kind::Prefix => (4, "prefix", 1, ONE_WORD, ONE_WORD),
+            Kind::Add => (5, "add", 0, TWO_WORDS, ONE_WORD),
+            Kind::Scale => (6, "scale", 1, ONE_WORD, ONE_WORD),
+            Kind::Weave => (7, "weave", 2, TWO_WORDS, ONE_WORD),
+            Kind::Merge => (8, "merge", 0, TWO_WORDS, ONE_WORD),
+            Kind::Divides => (9, "divides", 1, ONE_WORD, ONE_FLAG),
+            Kind::Switch => (10, "switch", 0, WORD_AND_FLAG, TWO_WORDS),
+            Kind::Select => (11, "select", 0, TWO_WORDS_AND_FLAG, ONE_WORD),
         }
     }
 

@@ -1,8 +1,8 @@
 //! The kinds that join two inputs: each function returns its kind's answer.
-ghost use Rattle.std.specs.Prelude.{◌≡◌, IsSome};
+ghost use Rattle.std.specs.Prelude.{◌≡◌};
 ghost use Rattle.kpn_standard.specs.Standard.{standard};
 ghost use Rattle.kpn_standard.specs.Merging.{emit};
-ghost use Rattle.kpn_standard.specs.Signatures.{card_of_kind, signature};
+ghost use Rattle.kpn_standard.specs.Signatures.{card_of_kind};
 ghost use Rattle.kpn_standard.specs.Admitted.{Admitted};
 
 use crate::kind::Kind;
@@ -36,8 +36,7 @@ const SECOND_KEPT_FIRST_READ: u64 = 5;
 
 /// Copies `args[0]` words of input 0, then `args[1]` of input 1, forever.
 pub fn weave(args: [u64; 3], local: Local, last: Option<Token>) -> Answer
-    requires signed { IsSome (signature (card_of_kind Kind.Weave args)) }
-    requires admitted { Admitted (card_of_kind Kind.Weave args) local last }
+    requires { Admitted (card_of_kind Kind.Weave args) local last }
     ensures { result ≡ standard.answer (card_of_kind Kind.Weave args) local last }
 {
     let [a, b, _] = args;
@@ -55,8 +54,6 @@ pub fn weave(args: [u64; 3], local: Local, last: Option<Token>) -> Answer
 /// Keeps the next word of each input, writes the lesser, and reads that input again, forever. Of two equal
 /// words it writes one and reads both inputs again, input 0 first.
 pub fn merge(args: [u64; 3], local: Local, last: Option<Token>) -> Answer
-    requires signed { IsSome (signature (card_of_kind Kind.Merge args)) }
-    requires admitted { Admitted (card_of_kind Kind.Merge args) local last }
     ensures { result ≡ standard.answer (card_of_kind Kind.Merge args) local last }
 {
     match local[0] {

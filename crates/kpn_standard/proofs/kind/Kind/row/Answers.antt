@@ -1,5 +1,5 @@
 -- The name in a kind's row means this kind.
-use Rattle.std.proofs.Common.{◌≡◌, Some, refl}
+use Rattle.std.proofs.Common.{◌≡◌, Some, refl, rules}
 use Rattle.kpn_standard.specs.declared.kind.Kind.{Kind}
 use Rattle.kpn_standard.specs.declared.kind.Kind.TheVariants.{Count, Sink, Take, Copy, Prefix, Add, Scale, Weave, Merge, Divides, Switch, Select}
 use Rattle.kpn_standard.specs.Table.{row_of}
@@ -21,4 +21,4 @@ means_itself Switch = refl
 means_itself Select = refl
 
 pub returns-clause-means : goal.returns-clause-means
-returns-clause-means c = rw (c.heading-number.ensures.name, c.heading-number.ensures.number, c.heading-number.ensures.arguments, means_itself c.args.self)
+returns-clause-means c = search (rules, means_itself)
