@@ -1,6 +1,5 @@
 //! The table of the kinds for signals.
 ghost use Rattle.std.specs.Prelude.{◌≡◌, ◌==◌, ◌&&◌, Some, IfSome};
-ghost use Rattle.kpn_standard.specs.Table.{plain_row, tabled};
 ghost use Rattle.kpn_signals.specs.Table.{row_of, numbered, called, called_by};
 ghost use Rattle.kpn_standard.specs.Locals.{at};
 ghost use Rattle.kpn_signals.specs.Signatures.{accepts, are_bounds, is_one_below, number_named};
@@ -9,7 +8,7 @@ ghost use Rattle.kpn_signals.specs.Family.{start_of};
 use crate::signs::{FIRST_BELOW, bound, word_below};
 use crate::turns::READS_FIRST;
 use kpn_model::{Local, Sort};
-use kpn_standard::kind::{Ports, Row};
+use kpn_standard::kind::Row;
 
 /// A kind for signals. Each variant names its arguments first.
 #[derive(Clone, Copy, Debug, PartialEq, Eq)]
@@ -115,25 +114,30 @@ const WORDS: Option<Sort> = Some(Sort::Words);
 
 const FLAGS: Option<Sort> = Some(Sort::Flags);
 
-const NO_PORT: Ports = [None, None, None];
+const NO_PORT: [Option<Sort>; 3] = [None, None, None];
 
-const ONE_WORD: Ports = [WORDS, None, None];
+const ONE_WORD: [Option<Sort>; 3] = [WORDS, None, None];
 
-const TWO_WORDS: Ports = [WORDS, WORDS, None];
+const TWO_WORDS: [Option<Sort>; 3] = [WORDS, WORDS, None];
 
-const ONE_FLAG: Ports = [FLAGS, None, None];
+const ONE_FLAG: [Option<Sort>; 3] = [FLAGS, None, None];
 
-const TWO_FLAGS: Ports = [FLAGS, FLAGS, None];
+const TWO_FLAGS: [Option<Sort>; 3] = [FLAGS, FLAGS, None];
 
-const WORD_AND_FLAG: Ports = [WORDS, FLAGS, None];
+const WORD_AND_FLAG: [Option<Sort>; 3] = [WORDS, FLAGS, None];
 
 impl Signal {
     /// Returns the kind's row of the table.
     pub fn row(self) -> Row
-        ensures is { plain_row result ≡ row_of self }
+        ensures number { result.number ≡ (row_of self).number }
+        ensures name { result.name.now ≡ (row_of self).name }
+        ensures arguments { result.arguments ≡ (row_of self).arguments }
+        ensures ins { result.ins ≡ (row_of self).ins }
+        ensures outs { result.outs ≡ (row_of self).outs }
         ensures means { number_named result.name.now ≡ Some (result.number, result.arguments) }
     {
-        let (number, name, arguments, ins, outs) = self.cells();
+        let (number, name, arguments) = self.heading();
+        let (ins, outs) = self.ports();
         Row {
             number,
             name,
@@ -143,53 +147,98 @@ impl Signal {
         }
     }
 
-    fn cells(self) -> (u16, &'static str, usize, Ports, Ports)
-        ensures { tabled result.0 result.1.now result.2 result.3 result.4 ≡ row_of self }
+    fn heading(self) -> (u16, &'static str, usize)
+        ensures number { result.0 ≡ (row_of self).number }
+        ensures name { result.1.now ≡ (row_of self).name }
+        ensures arguments { result.2 ≡ (row_of self).arguments }
     {
         match self {
-            Signal::Input => (0, "input", 0, NO_PORT, ONE_WORD),
-            Signal::InputFlags => (1, "input_flags", 0, NO_PORT, ONE_FLAG),
-            Signal::Drain => (2, "drain", 0, ONE_WORD, NO_PORT),
-            Signal::DrainFlags => (3, "drain_flags", 0, ONE_FLAG, NO_PORT),
-            Signal::Constant => (4, "constant", 1, NO_PORT, ONE_WORD),
-            Signal::CountUp => (5, "count_up", 0, NO_PORT, ONE_WORD),
-            Signal::Sub => (6, "sub", 0, TWO_WORDS, ONE_WORD),
-            Signal::Mul => (7, "mul", 0, TWO_WORDS, ONE_WORD),
-            Signal::Shift => (8, "shift", 1, ONE_WORD, ONE_WORD),
-            Signal::Left => (9, "left", 1, ONE_WORD, ONE_WORD),
-            Signal::Less => (10, "less", 0, TWO_WORDS, ONE_FLAG),
-            Signal::Equal => (11, "equal", 0, TWO_WORDS, ONE_FLAG),
-            Signal::Not => (12, "not", 0, ONE_FLAG, ONE_FLAG),
-            Signal::And => (13, "and", 0, TWO_FLAGS, ONE_FLAG),
-            Signal::Or => (14, "or", 0, TWO_FLAGS, ONE_FLAG),
-            Signal::Decimate => (15, "decimate", 1, ONE_WORD, ONE_WORD),
-            Signal::Repeat => (16, "repeat", 1, ONE_WORD, ONE_WORD),
-            Signal::Hold => (17, "hold", 1, WORD_AND_FLAG, ONE_WORD),
-            Signal::Delay => (18, "delay", 1, ONE_WORD, ONE_WORD),
-            Signal::LowPass => (19, "low_pass", 1, ONE_WORD, ONE_WORD),
-            Signal::Clip => (20, "clip", 2, ONE_WORD, ONE_WORD),
-            Signal::SignedConstant => (21, "constant, signed", 2, NO_PORT, ONE_WORD),
-            Signal::SignedHold => (22, "hold, signed", 2, WORD_AND_FLAG, ONE_WORD),
-            Signal::SignedClip => (23, "clip, signed", 3, ONE_WORD, ONE_WORD),
-            Signal::SignedScale => (24, "scale, signed", 2, ONE_WORD, ONE_WORD),
-            Signal::SignedPrefix => (25, "prefix, signed", 2, ONE_WORD, ONE_WORD),
-            Signal::CopyFlags => (26, "copy_flags", 0, ONE_FLAG, TWO_FLAGS),
-            Signal::Min => (27, "min", 0, TWO_WORDS, ONE_WORD),
-            Signal::Max => (28, "max", 0, TWO_WORDS, ONE_WORD),
-            Signal::Abs => (29, "abs", 0, ONE_WORD, ONE_WORD),
-            Signal::Offset => (30, "offset", 1, ONE_WORD, ONE_WORD),
-            Signal::Gain => (31, "gain", 2, ONE_WORD, ONE_WORD),
-            Signal::Div => (32, "div", 0, TWO_WORDS, ONE_WORD),
-            Signal::Mod => (33, "mod", 0, TWO_WORDS, ONE_WORD),
-            Signal::Sum => (34, "sum", 0, ONE_WORD, ONE_WORD),
-            Signal::Difference => (35, "difference", 0, ONE_WORD, ONE_WORD),
-            Signal::Average => (36, "average", 1, ONE_WORD, ONE_WORD),
-            Signal::Counter => (37, "counter", 0, ONE_FLAG, ONE_WORD),
-            Signal::Edge => (38, "edge", 0, ONE_FLAG, ONE_FLAG),
-            Signal::Noise => (39, "noise", 1, NO_PORT, ONE_WORD),
-            Signal::Gate => (40, "gate", 0, WORD_AND_FLAG, ONE_WORD),
-            Signal::SignedOffset => (41, "offset, signed", 2, ONE_WORD, ONE_WORD),
-            Signal::SignedGain => (42, "gain, signed", 3, ONE_WORD, ONE_WORD),
+            Signal::Input => (0, "input", 0),
+            Signal::InputFlags => (1, "input_flags", 0),
+            Signal::Drain => (2, "drain", 0),
+            Signal::DrainFlags => (3, "drain_flags", 0),
+            Signal::Constant => (4, "constant", 1),
+            Signal::CountUp => (5, "count_up", 0),
+            Signal::Sub => (6, "sub", 0),
+            Signal::Mul => (7, "mul", 0),
+            Signal::Shift => (8, "shift", 1),
+            Signal::Left => (9, "left", 1),
+            Signal::Less => (10, "less", 0),
+            Signal::Equal => (11, "equal", 0),
+            Signal::Not => (12, "not", 0),
+            Signal::And => (13, "and", 0),
+            Signal::Or => (14, "or", 0),
+            Signal::Decimate => (15, "decimate", 1),
+            Signal::Repeat => (16, "repeat", 1),
+            Signal::Hold => (17, "hold", 1),
+            Signal::Delay => (18, "delay", 1),
+            Signal::LowPass => (19, "low_pass", 1),
+            Signal::Clip => (20, "clip", 2),
+            Signal::SignedConstant => (21, "constant, signed", 2),
+            Signal::SignedHold => (22, "hold, signed", 2),
+            Signal::SignedClip => (23, "clip, signed", 3),
+            Signal::SignedScale => (24, "scale, signed", 2),
+            Signal::SignedPrefix => (25, "prefix, signed", 2),
+            Signal::CopyFlags => (26, "copy_flags", 0),
+            Signal::Min => (27, "min", 0),
+            Signal::Max => (28, "max", 0),
+            Signal::Abs => (29, "abs", 0),
+            Signal::Offset => (30, "offset", 1),
+            Signal::Gain => (31, "gain", 2),
+            Signal::Div => (32, "div", 0),
+            Signal::Mod => (33, "mod", 0),
+            Signal::Sum => (34, "sum", 0),
+            Signal::Difference => (35, "difference", 0),
+            Signal::Average => (36, "average", 1),
+            Signal::Counter => (37, "counter", 0),
+            Signal::Edge => (38, "edge", 0),
+            Signal::Noise => (39, "noise", 1),
+            Signal::Gate => (40, "gate", 0),
+            Signal::SignedOffset => (41, "offset, signed", 2),
+            Signal::SignedGain => (42, "gain, signed", 3),
+        }
+    }
+
+    fn ports(self) -> ([Option<Sort>; 3], [Option<Sort>; 3])
+        ensures ins { result.0 ≡ (row_of self).ins }
+        ensures outs { result.1 ≡ (row_of self).outs }
+    {
+        match self {
+            Signal::Input
+            | Signal::Constant
+            | Signal::CountUp
+            | Signal::Noise
+            | Signal::SignedConstant => (NO_PORT, ONE_WORD),
+            Signal::InputFlags => (NO_PORT, ONE_FLAG),
+            Signal::Drain => (ONE_WORD, NO_PORT),
+            Signal::DrainFlags => (ONE_FLAG, NO_PORT),
+            Signal::Sub | Signal::Mul | Signal::Min | Signal::Max | Signal::Div | Signal::Mod => (
+                TWO_WORDS, ONE_WORD,
+            ),
+            Signal::Shift
+            | Signal::Left
+            | Signal::Decimate
+            | Signal::Repeat
+            | Signal::Delay
+            | Signal::LowPass
+            | Signal::Clip
+            | Signal::SignedClip
+            | Signal::SignedScale
+            | Signal::SignedPrefix
+            | Signal::Abs
+            | Signal::Offset
+            | Signal::Gain
+            | Signal::Sum
+            | Signal::Difference
+            | Signal::Average
+            | Signal::SignedOffset
+            | Signal::SignedGain => (ONE_WORD, ONE_WORD),
+            Signal::Less | Signal::Equal => (TWO_WORDS, ONE_FLAG),
+            Signal::Not | Signal::Edge => (ONE_FLAG, ONE_FLAG),
+            Signal::Counter => (ONE_FLAG, ONE_WORD),
+            Signal::And | Signal::Or => (TWO_FLAGS, ONE_FLAG),
+            Signal::CopyFlags => (ONE_FLAG, TWO_FLAGS),
+            Signal::Hold | Signal::SignedHold | Signal::Gate => (WORD_AND_FLAG, ONE_WORD),
         }
     }
 

@@ -1,5 +1,5 @@
 -- The name in a kind's row means this kind.
-use Rattle.std.proofs.Common.{◌≡◌, Some, refl, rules}
+use Rattle.std.proofs.Common.{◌≡◌, Some, refl}
 use Rattle.kpn_signals.specs.declared.signal.Signal.{Signal}
 use Rattle.kpn_signals.specs.declared.signal.Signal.TheVariants.{Input, InputFlags, Drain, DrainFlags, Constant, CountUp, Sub, Mul, Shift, Left, Less, Equal, Not, And, Or, Decimate, Repeat, Hold, Delay, LowPass, Clip, SignedConstant, SignedHold, SignedClip, SignedScale, SignedPrefix, CopyFlags, Min, Max, Abs, Offset, Gain, Div, Mod, Sum, Difference, Average, Counter, Edge, Noise, Gate, SignedOffset, SignedGain}
 use Rattle.kpn_signals.specs.Table.{row_of}
@@ -52,4 +52,4 @@ means_itself SignedOffset = refl
 means_itself SignedGain = refl
 
 pub returns-clause-means : goal.returns-clause-means
-returns-clause-means c = search (rules, means_itself)
+returns-clause-means c = rw (c.heading-number.ensures.name, c.heading-number.ensures.number, c.heading-number.ensures.arguments, means_itself c.args.self)
