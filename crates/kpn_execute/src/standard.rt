@@ -93,8 +93,7 @@ fn make_and_execute<S: Sink, R: Wait + Clock + Threads + Sync>(
                 let call: Call = Box::new(
                     alloc,
                     move |local: Local, last: Option<Token>| -> Answer
-                        requires signed { IsSome (signature (card_of_kind Kind.Count args)) }
-                        requires admitted { Admitted (card_of_kind Kind.Count args) local last }
+                        requires { IsSome (signature (card_of_kind Kind.Count args)) }
                         ensures { result ≡ standard.answer (card_of_kind Kind.Count args) local last }
                     { by_words(count(args, local, last)) },
                 )?;
@@ -104,8 +103,6 @@ fn make_and_execute<S: Sink, R: Wait + Clock + Threads + Sync>(
                 let call: Call = Box::new(
                     alloc,
                     move |local: Local, last: Option<Token>| -> Answer
-                        requires signed { IsSome (signature (card_of_kind Kind.Sink args)) }
-                        requires admitted { Admitted (card_of_kind Kind.Sink args) local last }
                         ensures { result ≡ standard.answer (card_of_kind Kind.Sink args) local last }
                     { by_words(standard_sink(args, local, last)) },
                 )?;
@@ -115,8 +112,7 @@ fn make_and_execute<S: Sink, R: Wait + Clock + Threads + Sync>(
                 let call: Call = Box::new(
                     alloc,
                     move |local: Local, last: Option<Token>| -> Answer
-                        requires signed { IsSome (signature (card_of_kind Kind.Take args)) }
-                        requires admitted { Admitted (card_of_kind Kind.Take args) local last }
+                        requires { Admitted (card_of_kind Kind.Take args) local last }
                         ensures { result ≡ standard.answer (card_of_kind Kind.Take args) local last }
                     { by_words(take(args, local, last)) },
                 )?;
@@ -126,8 +122,6 @@ fn make_and_execute<S: Sink, R: Wait + Clock + Threads + Sync>(
                 let call: Call = Box::new(
                     alloc,
                     move |local: Local, last: Option<Token>| -> Answer
-                        requires signed { IsSome (signature (card_of_kind Kind.Copy args)) }
-                        requires admitted { Admitted (card_of_kind Kind.Copy args) local last }
                         ensures { result ≡ standard.answer (card_of_kind Kind.Copy args) local last }
                     { by_words(copy(args, local, last)) },
                 )?;
@@ -137,8 +131,6 @@ fn make_and_execute<S: Sink, R: Wait + Clock + Threads + Sync>(
                 let call: Call = Box::new(
                     alloc,
                     move |local: Local, last: Option<Token>| -> Answer
-                        requires signed { IsSome (signature (card_of_kind Kind.Prefix args)) }
-                        requires admitted { Admitted (card_of_kind Kind.Prefix args) local last }
                         ensures { result ≡ standard.answer (card_of_kind Kind.Prefix args) local last }
                     { by_words(prefix(args, local, last)) },
                 )?;
@@ -148,8 +140,6 @@ fn make_and_execute<S: Sink, R: Wait + Clock + Threads + Sync>(
                 let call: Call = Box::new(
                     alloc,
                     move |local: Local, last: Option<Token>| -> Answer
-                        requires signed { IsSome (signature (card_of_kind Kind.Add args)) }
-                        requires admitted { Admitted (card_of_kind Kind.Add args) local last }
                         ensures { result ≡ standard.answer (card_of_kind Kind.Add args) local last }
                     { by_words(add(args, local, last)) },
                 )?;
@@ -159,8 +149,6 @@ fn make_and_execute<S: Sink, R: Wait + Clock + Threads + Sync>(
                 let call: Call = Box::new(
                     alloc,
                     move |local: Local, last: Option<Token>| -> Answer
-                        requires signed { IsSome (signature (card_of_kind Kind.Scale args)) }
-                        requires admitted { Admitted (card_of_kind Kind.Scale args) local last }
                         ensures { result ≡ standard.answer (card_of_kind Kind.Scale args) local last }
                     { by_words(scale(args, local, last)) },
                 )?;
@@ -170,8 +158,7 @@ fn make_and_execute<S: Sink, R: Wait + Clock + Threads + Sync>(
                 let call: Call = Box::new(
                     alloc,
                     move |local: Local, last: Option<Token>| -> Answer
-                        requires signed { IsSome (signature (card_of_kind Kind.Weave args)) }
-                        requires admitted { Admitted (card_of_kind Kind.Weave args) local last }
+                        requires { Admitted (card_of_kind Kind.Weave args) local last }
                         ensures { result ≡ standard.answer (card_of_kind Kind.Weave args) local last }
                     { by_words(weave(args, local, last)) },
                 )?;
@@ -181,8 +168,6 @@ fn make_and_execute<S: Sink, R: Wait + Clock + Threads + Sync>(
                 let call: Call = Box::new(
                     alloc,
                     move |local: Local, last: Option<Token>| -> Answer
-                        requires signed { IsSome (signature (card_of_kind Kind.Merge args)) }
-                        requires admitted { Admitted (card_of_kind Kind.Merge args) local last }
                         ensures { result ≡ standard.answer (card_of_kind Kind.Merge args) local last }
                     { by_words(merge(args, local, last)) },
                 )?;
@@ -192,8 +177,7 @@ fn make_and_execute<S: Sink, R: Wait + Clock + Threads + Sync>(
                 let call: Call = Box::new(
                     alloc,
                     move |local: Local, last: Option<Token>| -> Answer
-                        requires signed { IsSome (signature (card_of_kind Kind.Divides args)) }
-                        requires admitted { Admitted (card_of_kind Kind.Divides args) local last }
+                        requires { IsSome (signature (card_of_kind Kind.Divides args)) }
                         ensures { result ≡ standard.answer (card_of_kind Kind.Divides args) local last }
                     { by_words(divides(args, local, last)) },
                 )?;
@@ -203,8 +187,7 @@ fn make_and_execute<S: Sink, R: Wait + Clock + Threads + Sync>(
                 let call: Call = Box::new(
                     alloc,
                     move |local: Local, last: Option<Token>| -> Answer
-                        requires signed { IsSome (signature (card_of_kind Kind.Switch args)) }
-                        requires admitted { Admitted (card_of_kind Kind.Switch args) local last }
+                        requires { Admitted (card_of_kind Kind.Switch args) local last }
                         ensures { result ≡ standard.answer (card_of_kind Kind.Switch args) local last }
                     { by_words(switch(args, local, last)) },
                 )?;
@@ -214,8 +197,6 @@ fn make_and_execute<S: Sink, R: Wait + Clock + Threads + Sync>(
                 let call: Call = Box::new(
                     alloc,
                     move |local: Local, last: Option<Token>| -> Answer
-                        requires signed { IsSome (signature (card_of_kind Kind.Select args)) }
-                        requires admitted { Admitted (card_of_kind Kind.Select args) local last }
                         ensures { result ≡ standard.answer (card_of_kind Kind.Select args) local last }
                     { by_words(select(args, local, last)) },
                 )?;
