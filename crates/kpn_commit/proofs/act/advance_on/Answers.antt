@@ -32,8 +32,8 @@ returns-clause-acts g c =
     ] in
     let was = live_of (family_of g.K.Kinds.start g.K.Kinds.answer_of) net p (status c.args.store.now.state p) c.args.answer c.requires.wants in
     let typed = c.requires.keeps.well_typed.locals p was.0 was.1.0 was.1.1 in
-    let names : NamesPort g.K.Kinds.signature (card_of net p) c.args.answer.act = rw (c.card.ensures, was.1.2) at (c.laws_of.ensures.names was.0 was.1.0 (rw (← c.card.ensures) at typed)) in
-    let leads : LeadsOn g.K.Kinds.signature g.K.Kinds.admits (card_of net p) c.args.answer (read_by deed) = rw (c.card.ensures, was.1.2) at (c.laws_of.ensures.leads was.0 was.1.0 (read_by deed) (rw (← c.card.ensures) at typed)) in
+    let names : NamesPort g.K.Kinds.signature (card_of net p) c.args.answer.act = rw (c.card.ensures.is, was.1.2) at (c.laws_of.ensures.names was.0 was.1.0 (rw (← c.card.ensures.is) at typed)) in
+    let leads : LeadsOn g.K.Kinds.signature g.K.Kinds.admits (card_of net p) c.args.answer (read_by deed) = rw (c.card.ensures.is, was.1.2) at (c.laws_of.ensures.leads was.0 was.1.0 (read_by deed) (rw (← c.card.ensures.is) at typed)) in
     record {
       is_deed = did.is_deed;
       entry = did.entry;

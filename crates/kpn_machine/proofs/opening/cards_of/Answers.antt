@@ -8,7 +8,7 @@ use Rattle.kpn_machine.proofs.Seats.{card_more, all_signed}
 use Rattle.kpn_machine.proofs.opening.cards_of.Goals as goal
 
 pub loop-process-preserved : goal.loop-process-preserved
-loop-process-preserved g c = card_more _ _ _ _ c.loop-process.invariant (c.in_ok-push.ensures.items ∙ ap (λ x. c.loop-process.cards.items ++ x ∷ []) c.card.ensures) (omega arith)
+loop-process-preserved g c = card_more _ _ _ _ c.loop-process.invariant (c.in_ok-push.ensures.items ∙ ap (λ x. c.loop-process.cards.items ++ x ∷ []) c.card.ensures.is) (omega arith)
 
 pub returns-clause-signed : goal.returns-clause-signed
 returns-clause-signed g c =

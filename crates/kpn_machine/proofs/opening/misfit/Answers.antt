@@ -13,7 +13,7 @@ returns-then-not-same_card-clause-some g c =
     let here : get_or (map f c.args.bodies.now) c.loop-p.p no_process.card ≡ c.card.result = at_map f c.args.bodies.now c.loop-p.p c.index-bodies-p.result (omega arith) c.index-bodies-p.is ∙ sym c.card.ensures.card in (
       omega arith,
       λ e.
-          let same : c.card.result ≡ c.card-in-loop-p.result = sym here ∙ ap (λ l. get_or l c.loop-p.p no_process.card) e ∙ card_at c.args.net.now.processes c.loop-p.p ∙ sym c.card-in-loop-p.ensures in
+          let same : c.card.result ≡ c.card-in-loop-p.result = sym here ∙ ap (λ l. get_or l c.loop-p.p no_process.card) e ∙ card_at c.args.net.now.processes c.loop-p.p ∙ sym c.card-in-loop-p.ensures.is in
           let holds = c.same_card.ensures.1 same in
           let fails = c.if-not-same_card.true in
           cc,
@@ -23,7 +23,7 @@ pub loop-p-preserved : goal.loop-p-preserved
 loop-p-preserved g c =
     let f = g.B.Body.card in
     let here : get_or (map f c.args.bodies.now) c.loop-p.p no_process.card ≡ c.card.result = at_map f c.args.bodies.now c.loop-p.p c.index-bodies-p.result (omega arith) c.index-bodies-p.is ∙ sym c.card.ensures.card in
-    below_more _ _ c.loop-p.invariant (here ∙ c.same_card.ensures.0 c.if-not-same_card.false ∙ c.card-in-loop-p.ensures)
+    below_more _ _ c.loop-p.invariant (here ∙ c.same_card.ensures.0 c.if-not-same_card.false ∙ c.card-in-loop-p.ensures.is)
 
 pub returns-clause-none : goal.returns-clause-none
 returns-clause-none g c =
