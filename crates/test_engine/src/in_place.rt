@@ -21,9 +21,13 @@ fn asks<R: Abort>(rt: &R, machine: &mut CardMachine, most: u64, due: (u64, usize
 fn to_the_end(rt: HostRuntime) {
     let mut machine = machine_of(&rt, rt.alloc(), SINK_OF_THREE);
     asks(&rt, &mut machine, 0, (0, 0, 0));
-    same(&rt, "one", machine.ask_in_place(1), 1);
-    same(&rt, "others", machine.ask_in_place(1000), 7);
-    same(&rt, "end", machine.end(), Some(End::Terminated));
+    let taken = (machine.ask_in_place(1), machine.ask_in_place(1000));
+    same(
+        &rt,
+        "taken",
+        (taken, machine.end()),
+        ((1, 7), Some(End::Terminated)),
+    );
     asks(&rt, &mut machine, 1000, (0, 0, 8));
     drop(machine);
 }

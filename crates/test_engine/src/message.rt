@@ -53,8 +53,9 @@ to = \"s1\"
 tokens = []
 ";
 
-/// Faults of the TOML or its keys.
-static KEYS: [(&str, &str, u8, &str); 15] = [
+/// The old text, the new one, the fault's number, the message.
+static EDITS: [(&str, &str, u8, &str); 42] = [
+    // Faults of the TOML or its keys.
     (
         "version = 2",
         "version = ",
@@ -140,10 +141,7 @@ static KEYS: [(&str, &str, u8, &str); 15] = [
         2,
         "channel[2] at line 34: unknown key \"tokens\"; the keys are name, from, to, out, in, sort, capacity",
     ),
-];
-
-/// Faults of names, kinds, arguments or unused ports.
-static PROCESSES: [(&str, &str, u8, &str); 13] = [
+    // Faults of names, kinds, arguments or unused ports.
     (
         "name = \"src\"",
         "name = \"Src\"",
@@ -222,10 +220,7 @@ static PROCESSES: [(&str, &str, u8, &str); 13] = [
         10,
         "process \"two\": output 0 has no channel",
     ),
-];
-
-/// Faults of channels, of the budget or of the step.
-static CHANNELS: [(&str, &str, u8, &str); 14] = [
+    // Faults of channels, of the budget or of the step.
     (
         "from = \"src\"",
         "from = \"scr\"",
@@ -398,34 +393,12 @@ fn tells<R: Abort>(rt: &R, alloc: Global, text: &[u8], number: u8, message: &str
     }
 }
 
-/// The old text, the new one, the fault's number, the message.
-type Edit = (&'static str, &'static str, u8, &'static str);
-
-fn tells_of_edit<R: Abort>(rt: &R, alloc: Global, edit: &Edit) {
-    let (old, new, number, message) = *edit;
-    let text = TEXT.replace(alloc, old, new).expect(rt, "no memory");
-    tells(rt, alloc, text.as_bytes(), number, message);
-}
-
-fn tells_of_edits<R: Abort>(rt: &R, alloc: Global, edits: &[Edit]) {
-    for edit in edits {
-        tells_of_edit(rt, alloc, edit);
+#[test]
+fn each_edit_has_its_message(rt: HostRuntime) {
+    for (old, new, number, message) in &EDITS {
+        let text = TEXT.replace(rt.alloc(), old, new).expect(&rt, message);
+        tells(&rt, rt.alloc(), text.as_bytes(), *number, message);
     }
-}
-
-#[test]
-fn edits_of_keys_have_their_messages(rt: HostRuntime) {
-    tells_of_edits(&rt, rt.alloc(), &KEYS);
-}
-
-#[test]
-fn edits_of_processes_have_their_messages(rt: HostRuntime) {
-    tells_of_edits(&rt, rt.alloc(), &PROCESSES);
-}
-
-#[test]
-fn edits_of_channels_have_their_messages(rt: HostRuntime) {
-    tells_of_edits(&rt, rt.alloc(), &CHANNELS);
 }
 
 #[test]
@@ -442,12 +415,11 @@ fn line_of(tables: usize, k: usize) -> Option<usize> {
     line_of_table(TEXT.as_bytes(), b"[[process]]", tables, k)
 }
 
+/// The first, the last, none, and one without a header.
 #[test]
 fn the_line_of_a_table_is_that_of_its_header(rt: HostRuntime) {
-    same(&rt, "first", line_of(4, 0), Some(4));
-    same(&rt, "last", line_of(4, 3), Some(18));
-    same(&rt, "none", line_of(4, 4), None);
-    same(&rt, "one without a header", line_of(5, 0), None);
+    let lines = [line_of(4, 0), line_of(4, 3), line_of(4, 4), line_of(5, 0)];
+    same(&rt, "lines", lines, [Some(4), Some(18), None, None]);
 }
 
 /// The faults without a message.
@@ -460,22 +432,18 @@ static PLAIN: [(NetFault, u8, &str); 2] = [
     ),
 ];
 
-fn compare_plain<R: Abort>(rt: &R, alloc: Global, fault: NetFault, number: u8, line: &str) {
-    let message = message_of::<Standard>(alloc, TEXT.as_bytes(), fault, KINDS);
-    same(
-        rt,
-        line,
-        (message.is_none(), fault.number()),
-        (true, number),
-    );
-    let text = format!(in alloc; "{fault}").expect(rt, "no memory");
-    same(rt, "line", text.as_str(), line);
-}
-
 #[test]
 fn two_faults_have_a_plain_line(rt: HostRuntime) {
     for (fault, number, line) in &PLAIN {
-        compare_plain(&rt, rt.alloc(), *fault, *number, line);
+        let message = message_of::<Standard>(rt.alloc(), TEXT.as_bytes(), *fault, KINDS);
+        same(
+            &rt,
+            line,
+            (message.is_none(), fault.number()),
+            (true, *number),
+        );
+        let text = format!(in rt.alloc(); "{fault}").expect(&rt, "no memory");
+        same(&rt, "line", text.as_str(), *line);
     }
 }
 
@@ -526,8 +494,8 @@ static MESSAGES: [&str; 5] = [
 ];
 
 fn compare_messages<R: Abort>(rt: &R, messages: &Messages) {
-    same(rt, "all", messages.are_all, true);
-    same(rt, "how many", messages.told.len(), MESSAGES.len());
+    let found = (messages.are_all, messages.told.len());
+    same(rt, "how many", found, (true, MESSAGES.len()));
     for (message, due) in messages.told.as_slice().iter().zip(MESSAGES.iter()) {
         same(rt, due, message.text.as_str(), *due);
     }
@@ -539,9 +507,10 @@ fn faults_that_stand_by_themselves_are_all_told(rt: HostRuntime) {
     let messages = messages_of_sketch::<Standard>(rt.alloc(), &sketch, KINDS);
     compare_messages(&rt, &messages);
     drop(messages);
-    let found = has_fault::<Standard>(&sketch, NetFault::Step);
-    same(&rt, "step", found, true);
-    let found = has_fault::<Standard>(&sketch, NetFault::Twice);
-    same(&rt, "twice", found, false);
+    let found = [
+        has_fault::<Standard>(&sketch, NetFault::Step),
+        has_fault::<Standard>(&sketch, NetFault::Twice),
+    ];
+    same(&rt, "step, twice", found, [true, false]);
     drop(sketch);
 }

@@ -38,8 +38,7 @@ fn moving_sum_adds_four_words(rt: HostRuntime) {
         args: [0; 3],
     };
     let (kept, sum) = MovingSums::step(card, [3, 2, 1, 0], 4);
-    same(&rt, "kept", kept, [4, 3, 2, 0]);
-    same(&rt, "sum", sum, 10);
+    same(&rt, "kept, sum", (kept, sum), ([4, 3, 2, 0], 10));
     let writes = Answer {
         next: [4, 3, 2, 0],
         act: Act::Write(0, Token::Word(10)),
@@ -54,9 +53,13 @@ fn named(name: &str) -> Option<(u16, usize)> {
 
 #[test]
 fn both_know_the_names_of_each(rt: HostRuntime) {
-    same(&rt, "gain", named("gain"), Some((0, 1)));
-    same(&rt, "moving_sum", named("moving_sum"), Some((1, 0)));
-    same(&rt, "scale", named("scale"), None);
+    let found = [named("gain"), named("moving_sum"), named("scale")];
+    same(
+        &rt,
+        "gain, moving_sum, scale",
+        found,
+        [Some((0, 1)), Some((1, 0)), None],
+    );
 }
 
 #[test]
@@ -65,25 +68,28 @@ fn both_answer_as_each(rt: HostRuntime) {
         kind: 0,
         args: [3, 0, 0],
     };
-    let answer = OwnKinds::answer(gain, [1, 0, 0, 0], Some(Token::Word(14)));
-    same(&rt, "gain", answer.act, Act::Write(0, Token::Word(42)));
     let moving_sum = Card {
         kind: 1,
         args: [0; 3],
     };
-    let answer = OwnKinds::answer(moving_sum, [3, 2, 1, 0], Some(Token::Word(4)));
-    same(&rt, "sum", answer.act, Act::Write(0, Token::Word(10)));
-    same(&rt, "known", OwnKinds::signature(&gain).is_some(), true);
     let unknown = Card {
         kind: 3,
         args: [0; 3],
     };
-    same(
-        &rt,
-        "unknown",
-        OwnKinds::signature(&unknown).is_none(),
-        true,
-    );
+    let acts = [
+        OwnKinds::answer(gain, [1, 0, 0, 0], Some(Token::Word(14))).act,
+        OwnKinds::answer(moving_sum, [3, 2, 1, 0], Some(Token::Word(4))).act,
+    ];
+    let due = [
+        Act::Write(0, Token::Word(42)),
+        Act::Write(0, Token::Word(10)),
+    ];
+    same(&rt, "gain, sum", acts, due);
+    let known = [
+        OwnKinds::signature(&gain).is_some(),
+        OwnKinds::signature(&unknown).is_some(),
+    ];
+    same(&rt, "known, unknown", known, [true, false]);
 }
 
 /// A gain and a moving sum in a loop without start tokens, which is only drawn.

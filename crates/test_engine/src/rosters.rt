@@ -15,25 +15,37 @@ fn parks_the_second<R: Abort>(rt: &R, roster: &mut Roster) {
     if roster.as_slice().len() > 1 {
         roster.update(1, READS);
     }
-    same(rt, "parked", is_parked(roster.as_slice(), 1), true);
-    same(rt, "ready", is_parked(roster.as_slice(), 2), false);
-    same(rt, "no process", is_parked(roster.as_slice(), 3), false);
-    same(rt, "parked ones aren't asked", roster.if_ready(1), None);
-    same(rt, "no process is asked", roster.if_ready(3), None);
+    let standings = roster.as_slice();
+    let parked = [
+        is_parked(standings, 1),
+        is_parked(standings, 2),
+        is_parked(standings, 3),
+    ];
+    same(
+        rt,
+        "one is parked, one ready, one none",
+        parked,
+        [true, false, false],
+    );
+    let asked = [roster.if_ready(1), roster.if_ready(3)];
+    same(rt, "neither is asked", asked, [None; 2]);
 }
 
 #[test]
 fn ready_processes_take_turns(rt: HostRuntime) {
     let mut roster = Roster::new(rt.alloc(), 3).expect(&rt, "ample memory");
-    same(&rt, "first", roster.turn(None), Some(0));
+    let first = roster.turn(None);
     let again = roster.if_ready(0);
-    same(&rt, "ready still", again, Some(0));
-    same(&rt, "asked again", roster.turn(again), Some(0));
-    same(&rt, "second", roster.turn(None), Some(1));
+    let turns = [first, again, roster.turn(again), roster.turn(None)];
+    same(&rt, "turns", turns, [Some(0), Some(0), Some(0), Some(1)]);
     parks_the_second(&rt, &mut roster);
-    same(&rt, "third", roster.turn(None), Some(2));
-    same(&rt, "first once more", roster.turn(None), Some(0));
-    same(&rt, "the second is left out", roster.turn(None), Some(2));
+    let turns = [roster.turn(None), roster.turn(None), roster.turn(None)];
+    same(
+        &rt,
+        "the second is left out",
+        turns,
+        [Some(2), Some(0), Some(2)],
+    );
     same(&rt, "ready ones", roster.ready(), 2);
 }
 
@@ -56,10 +68,10 @@ fn move_on<R: Abort>(rt: &R, roster: &mut Roster) {
 #[test]
 fn processes_are_counted_where_they_stand(rt: HostRuntime) {
     let mut roster = Roster::new(rt.alloc(), 3).expect(&rt, "ample memory");
-    same(&rt, "at first", counts(&roster), (3, 0, 0, 3));
-    same(&rt, "sent out", roster.send_out(), Some(0));
-    same(&rt, "one out", counts(&roster), (2, 1, 0, 3));
+    let at_first = counts(&roster);
+    let sent = (at_first, roster.send_out(), counts(&roster));
+    same(&rt, "sent out", sent, ((3, 0, 0, 3), Some(0), (2, 1, 0, 3)));
     move_on(&rt, &mut roster);
-    same(&rt, "all stopped", counts(&roster), (0, 0, 0, 0));
-    same(&rt, "terminated", roster.all_stopped(), true);
+    let stopped = (counts(&roster), roster.all_stopped());
+    same(&rt, "all stopped", stopped, ((0, 0, 0, 0), true));
 }

@@ -44,15 +44,18 @@ fn answer_of_another_body<R: Abort>(rt: &R, alloc: Global) -> CardFinished {
 }
 
 fn assert_first_answer<R: Abort>(rt: &R, finished: &CardFinished) {
-    same(rt, "process", finished.process(), 0);
-    same(rt, "card", finished.card(), COUNTER);
-    same(rt, "local", finished.local(), [0, 0, 0, 0]);
-    same(rt, "last", finished.last(), None);
+    let input = (
+        finished.process(),
+        finished.card(),
+        finished.local(),
+        finished.last(),
+    );
+    same(rt, "input", input, (0, COUNTER, [0, 0, 0, 0], None));
 }
 
 fn assert_one_commit<R: Abort>(rt: &R, machine: &CardMachine) {
-    same(rt, "history", machine.history(), [PUT_1].as_slice());
-    same(rt, "commits", machine.commits(), 1);
+    let found = (machine.history(), machine.commits());
+    same(rt, "history, commits", found, ([PUT_1].as_slice(), 1));
 }
 
 /// Commits the counter's first answer again: it comes back, and nothing changes.
@@ -93,10 +96,8 @@ fn refuse_fresh<R: Abort>(
 
 fn second_task<R: Abort>(rt: &R, machine: &mut CardMachine) -> CardTask {
     let task = take(rt, machine);
-    same(rt, "process", task.process(), 0);
-    same(rt, "card", task.card(), COUNTER);
-    same(rt, "local", task.local(), [1, 0, 0, 0]);
-    same(rt, "last", task.last(), None);
+    let held = (task.process(), task.card(), task.local(), task.last());
+    same(rt, "held", held, (0, COUNTER, [1, 0, 0, 0], None));
     task
 }
 
@@ -105,8 +106,7 @@ fn refuse_while_out<R: Abort>(rt: &R, machine: &mut CardMachine, finished: CardF
     let task = second_task(rt, machine);
     refuse_again(rt, machine, finished);
     let outcome = outcome_of(rt, machine, task.call());
-    same(rt, "outcome", outcome, Parked(0));
-    same(rt, "commits", machine.commits(), 2);
+    same(rt, "outcome", (outcome, machine.commits()), (Parked(0), 2));
 }
 
 fn answer_twice<R: Abort>(rt: &R, alloc: Global, machine: &mut CardMachine) {

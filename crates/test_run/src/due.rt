@@ -145,12 +145,12 @@ pub(crate) fn compare<K: Kinds, R: Abort>(
 }
 
 fn compare_numbers<K: Kinds, R: Abort>(rt: &R, finish: &Finish<K>, due: &Due) {
-    same(rt, "receipts", finish.receipts(), due.entries);
-    same(rt, "history", finish.history().len() as u64, due.entries);
-    same(rt, "processes", finish.net().processes(), due.processes);
-    same(rt, "standings", finish.standings().len(), due.processes);
-    same(rt, "stopped", stopped_in(finish.standings()), due.stopped);
-    same(rt, "end", finish.end(), due.end);
+    let entries = [finish.receipts(), finish.history().len() as u64];
+    same(rt, "receipts, history", entries, [due.entries; 2]);
+    let processes = [finish.net().processes(), finish.standings().len()];
+    same(rt, "processes, standings", processes, [due.processes; 2]);
+    let ended = (stopped_in(finish.standings()), finish.end());
+    same(rt, "stopped, end", ended, (due.stopped, due.end));
 }
 
 fn stopped_in(standings: &[Standing]) -> usize {

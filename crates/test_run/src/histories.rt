@@ -95,11 +95,13 @@ fn compare_streams<R: Abort>(rt: &R, detail: &Detail) {
 
 fn compare_detail<R: Abort>(rt: &R, detail: &Detail) {
     same(rt, "places", detail.places.as_slice(), PLACES.as_slice());
-    same(rt, "steps", detail.steps.as_slice(), [4, 2].as_slice());
-    let capacities = detail.capacities.as_slice();
-    same(rt, "capacities", capacities, [2].as_slice());
-    let growths = detail.growths.as_slice();
-    same(rt, "growths", growths, [(0, 2)].as_slice());
+    let counts = (
+        detail.steps.as_slice(),
+        detail.capacities.as_slice(),
+        detail.growths.as_slice(),
+    );
+    let due = ([4, 2].as_slice(), [2].as_slice(), [(0, 2)].as_slice());
+    same(rt, "steps, capacities, growths", counts, due);
     same(rt, "entries", detail.entries, 7);
 }
 

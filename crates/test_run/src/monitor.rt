@@ -7,4 +7,3 @@ mod scenes;
 mod staying;
 mod strangers;
 mod waking;
-mod watchers;

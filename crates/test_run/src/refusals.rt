@@ -132,16 +132,12 @@ fn ends_for_memory<K: Kinds, R: Abort>(
     alloc: Global,
     finish: &Finish<K>,
 ) -> Result<(), AllocError> {
-    same(
-        rt,
-        "receipts",
-        finish.receipts(),
-        finish.history().len() as u64,
-    );
-    same(rt, "growths", growths_in(finish.history()), 0);
+    let entries = finish.history().len() as u64;
+    let found = (finish.receipts(), growths_in(finish.history()));
+    same(rt, "receipts, growths", found, (entries, 0));
     let report = report(alloc, finish)?;
-    same(rt, "end", report.end, End::Memory);
-    same(rt, "no detail", report.detail.is_none(), true);
+    let found = (report.end, report.detail.is_none());
+    same(rt, "end, no detail", found, (End::Memory, true));
     Ok(())
 }
 
@@ -184,8 +180,8 @@ fn tell_report<K: Kinds, R: Abort>(
     due: &Due,
 ) -> Refused {
     let (told, refused) = report_again(rt, alloc, finish);
-    same(rt, "end", told.end, due.end);
-    same(rt, "detail", told.detail.is_some(), true);
+    let found = (told.end, told.detail.is_some());
+    same(rt, "end, detail", found, (due.end, true));
     refused
 }
 

@@ -13,10 +13,21 @@ use test_texts::COUNTER_INTO_SINK;
 
 static TOKENS: [Token; 3] = [Token::Word(1), Token::Word(2), Token::Word(3)];
 
+fn only<'a, R: Abort>(rt: &R, streams: &'a Streams) -> &'a Stream {
+    match streams.as_slice() {
+        [stream] => stream,
+        _ => panic!(rt; "not one stream"),
+    }
+}
+
 /// The network doesn't have channel 1.
-fn compare_no_stream<K: Kinds, R: Abort>(rt: &R, alloc: Global, finish: &Finish<K>) {
+fn compare_report<K: Kinds, R: Abort>(rt: &R, alloc: Global, finish: &Finish<K>) {
     let none = stream_of(alloc, finish.net(), finish.history(), 1).expect(rt, "no memory");
     same(rt, "no stream", none.len(), 0);
+    let Report { end, detail } = report(alloc, finish).expect(rt, "no memory");
+    let detail = detail.as_ref().expect(rt, "no detail");
+    same(rt, "end", (end, detail.entries), (End::Terminated, 8));
+    compare_lists(rt, detail);
 }
 
 fn compare_lists<R: Abort>(rt: &R, detail: &Detail) {
@@ -26,37 +37,23 @@ fn compare_lists<R: Abort>(rt: &R, detail: &Detail) {
     let growths: &Growths = &detail.growths;
     let stopped = [Place::Stopped, Place::Stopped];
     same(rt, "places", places.as_slice(), stopped.as_slice());
-    same(rt, "steps", steps.as_slice(), [4, 4].as_slice());
-    same(rt, "capacities", capacities.as_slice(), [1].as_slice());
-    same(rt, "growths", growths.as_slice().len(), 0);
+    let counts = (
+        steps.as_slice(),
+        capacities.as_slice(),
+        growths.as_slice().len(),
+    );
+    let due = ([4, 4].as_slice(), [1].as_slice(), 0);
+    same(rt, "steps, capacities, growths", counts, due);
     same(rt, "others", Place::Reads(0) == Place::Writes(0), false);
-}
-
-fn only<'a, R: Abort>(rt: &R, streams: &'a Streams) -> &'a Stream {
-    match streams.as_slice() {
-        [stream] => stream,
-        _ => panic!(rt; "not one stream"),
-    }
-}
-
-fn compare_report<K: Kinds, R: Abort>(rt: &R, alloc: Global, finish: &Finish<K>) {
-    let Report { end, detail } = report(alloc, finish).expect(rt, "no memory");
-    let detail = detail.as_ref().expect(rt, "no detail");
-    same(rt, "end", (end, detail.entries), (End::Terminated, 8));
-    compare_lists(rt, detail);
-    compare_streams(rt, &detail.streams, &detail.rests);
-}
-
-fn compare_streams<R: Abort>(rt: &R, streams: &Streams, rests: &Streams) {
-    same(rt, "put", only(rt, streams).as_slice(), TOKENS.as_slice());
-    same(rt, "left", only(rt, rests).as_slice().len(), 0);
+    let put = only(rt, &detail.streams);
+    same(rt, "put", put.as_slice(), TOKENS.as_slice());
+    same(rt, "left", only(rt, &detail.rests).as_slice().len(), 0);
 }
 
 #[test]
 fn a_run_by_two_workers_is_told(rt: HostRuntime) {
     Open.before_commit(0);
     let finish = finish_text(&rt, rt.alloc(), COUNTER_INTO_SINK, 2, &Open);
-    compare_no_stream(&rt, rt.alloc(), &finish);
     compare_report(&rt, rt.alloc(), &finish);
     drop(finish);
 }

@@ -62,7 +62,7 @@ pub(crate) fn feed_batch<R: Abort>(
     flow.feed_all(channel, batch)
 }
 
-pub(crate) fn drain<R: Abort>(rt: &R, flow: &mut CardFlow, channel: usize) -> Option<Token> {
+fn drain<R: Abort>(rt: &R, flow: &mut CardFlow, channel: usize) -> Option<Token> {
     assert!(rt; flow.is_output(channel));
     flow.drain(channel)
 }

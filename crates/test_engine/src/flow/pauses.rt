@@ -20,6 +20,16 @@ enum Step {
     Full(usize, u64),
     /// Drains an output that holds these words and no more.
     Drain(usize, &'static [u64]),
+    /// Feeds a batch into an input, of which so many have room.
+    FeedAll(usize, &'static [Token], usize),
+    /// Whether a batch may be fed.
+    MayFeedAll(usize, &'static [Token], bool),
+    /// Ends an input.
+    End(usize),
+    /// Whether a channel is an input.
+    Input(usize, bool),
+    /// Whether a word may be fed into a channel.
+    MayFeed(usize, bool),
     /// Whether a channel's reader waits for a token.
     Starved(usize, bool),
     /// Whether a channel's writer waits for room.
@@ -30,14 +40,32 @@ enum Step {
     Exhausted(bool),
     /// The entries, and the growths among them.
     Counts(u64, u64),
+    /// Where the processes stand.
+    Places(&'static [Place]),
 }
 
-fn take_step<R: Abort>(rt: &R, flow: &mut CardFlow, step: &Step) {
+fn take_step<R: Abort>(rt: &R, alloc: Global, flow: &mut CardFlow, step: &Step) {
     match step {
         Step::Advance(most, due) => same(rt, "pause", flow.advance(*most), *due),
         Step::Feed(channel, words) => feed_words(rt, flow, *channel, words),
         Step::Full(channel, word) => same(rt, "full", feed(rt, flow, *channel, *word), false),
         Step::Drain(channel, words) => drain_words(rt, flow, *channel, words),
+        Step::FeedAll(channel, batch, due) => {
+            same(rt, "batch", feed_batch(rt, flow, *channel, batch), *due);
+        }
+        Step::MayFeedAll(channel, batch, due) => {
+            same(rt, "may feed all", flow.may_feed_all(*channel, batch), *due);
+        }
+        Step::End(channel) => flow.end_input(*channel),
+        Step::Input(channel, due) => same(rt, "input", flow.is_input(*channel), *due),
+        Step::MayFeed(channel, due) => {
+            same(
+                rt,
+                "may feed",
+                flow.may_feed(*channel, Token::Word(0)),
+                *due,
+            );
+        }
         Step::Starved(channel, due) => same(rt, "starved", flow.is_starved(*channel), *due),
         Step::HeldUp(channel, due) => same(rt, "held up", flow.is_held_up(*channel), *due),
         Step::Room(channel, due) => same(rt, "room", flow.has_room(*channel), *due),
@@ -46,13 +74,27 @@ fn take_step<R: Abort>(rt: &R, flow: &mut CardFlow, step: &Step) {
             let found = (flow.entries(), flow.growths());
             same(rt, "counts", found, (*entries, *growths));
         }
+        Step::Places(due) => {
+            let places = places_of(alloc, flow.net(), flow.standings()).expect(rt, "no memory");
+            same(rt, "places", places.as_slice(), due);
+        }
     }
 }
 
-fn play<R: Abort>(rt: &R, flow: &mut CardFlow, steps: &[Step]) {
+/// Opens a flow of these inputs and outputs, and takes the steps.
+fn play<R: Abort>(
+    rt: &R,
+    alloc: Global,
+    text: &str,
+    inputs: &[usize],
+    outputs: &[usize],
+    steps: &[Step],
+) {
+    let mut flow = flow_of(rt, alloc, text, inputs, outputs);
     for step in steps {
-        take_step(rt, flow, step);
+        take_step(rt, alloc, &mut flow, step);
     }
+    drop(flow);
 }
 
 const STARVED: Step = Step::Advance(1000, Pause::Starved);
@@ -87,12 +129,13 @@ static SCALED: [Step; 18] = [
 
 #[test]
 fn words_are_scaled(rt: HostRuntime) {
-    let mut flow = flow_of(&rt, rt.alloc(), SCALE, &[0], &[1]);
-    play(&rt, &mut flow, &SCALED);
-    drop(flow);
+    play(&rt, rt.alloc(), SCALE, &[0], &[1], &SCALED);
 }
 
-static REST_OF_A_BATCH: [Step; 4] = [
+static BATCH: [Step; 7] = [
+    Step::MayFeedAll(0, &[Token::Flag(true)], false),
+    Step::FeedAll(0, &[Token::Word(5), Token::Word(7), Token::Word(9)], 2),
+    Step::FeedAll(0, &[Token::Word(5), Token::Word(7), Token::Word(9)], 0),
     BLOCKED,
     Step::Drain(1, &[15]),
     STARVED,
@@ -101,14 +144,7 @@ static REST_OF_A_BATCH: [Step; 4] = [
 
 #[test]
 fn a_batch_is_fed_as_far_as_there_is_room(rt: HostRuntime) {
-    let mut flow = flow_of(&rt, rt.alloc(), SCALE, &[0], &[1]);
-    let batch = [Token::Word(5), Token::Word(7), Token::Word(9)];
-    let may_feed = flow.may_feed_all(0, &[Token::Flag(true)]);
-    same(&rt, "flag", may_feed, false);
-    same(&rt, "first", feed_batch(&rt, &mut flow, 0, &batch), 2);
-    same(&rt, "full", feed_batch(&rt, &mut flow, 0, &batch), 0);
-    play(&rt, &mut flow, &REST_OF_A_BATCH);
-    drop(flow);
+    play(&rt, rt.alloc(), SCALE, &[0], &[1], &BATCH);
 }
 
 static CUT: [Step; 7] = [
@@ -124,9 +160,7 @@ static CUT: [Step; 7] = [
 
 #[test]
 fn a_flow_is_cut(rt: HostRuntime) {
-    let mut flow = flow_of(&rt, rt.alloc(), SCALE, &[0], &[1]);
-    play(&rt, &mut flow, &CUT);
-    drop(flow);
+    play(&rt, rt.alloc(), SCALE, &[0], &[1], &CUT);
 }
 
 static SUMS: [Step; 11] = [
@@ -145,28 +179,30 @@ static SUMS: [Step; 11] = [
 
 #[test]
 fn sums_come_of_two_inputs_and_go_back(rt: HostRuntime) {
-    let mut flow = flow_of(&rt, rt.alloc(), RUNNING_SUM, &[0, 1], &[5]);
-    play(&rt, &mut flow, &SUMS);
-    drop(flow);
+    play(&rt, rt.alloc(), RUNNING_SUM, &[0, 1], &[5], &SUMS);
 }
-
-static THREE_SUMS: [Step; 3] = [
-    Step::Feed(0, &[1, 2, 3]),
-    Step::Feed(1, &[10, 20, 30]),
-    STARVED,
-];
 
 #[test]
 fn an_output_is_drained_into_a_buffer(rt: HostRuntime) {
     let mut flow = flow_of(&rt, rt.alloc(), RUNNING_SUM, &[0, 1], &[5]);
-    play(&rt, &mut flow, &THREE_SUMS);
+    feed_words(&rt, &mut flow, 0, &[1, 2, 3]);
+    feed_words(&rt, &mut flow, 1, &[10, 20, 30]);
+    same(&rt, "pause", flow.advance(1000), Pause::Starved);
     let mut buffer = [Token::Word(0), Token::Word(0)];
-    same(&rt, "two", drain_buffer(&rt, &mut flow, 5, &mut buffer), 2);
-    let both = [Token::Word(11), Token::Word(33)];
-    same(&rt, "sums", buffer.as_slice(), both.as_slice());
-    same(&rt, "one", drain_buffer(&rt, &mut flow, 5, &mut buffer), 1);
-    let one = [Token::Word(66), Token::Word(33)];
-    same(&rt, "the rest stays", buffer.as_slice(), one.as_slice());
+    let drained = drain_buffer(&rt, &mut flow, 5, &mut buffer);
+    same(
+        &rt,
+        "sums",
+        (drained, buffer),
+        (2, [Token::Word(11), Token::Word(33)]),
+    );
+    let drained = drain_buffer(&rt, &mut flow, 5, &mut buffer);
+    same(
+        &rt,
+        "the rest stays",
+        (drained, buffer),
+        (1, [Token::Word(66), Token::Word(33)]),
+    );
     drop(flow);
 }
 
@@ -179,9 +215,7 @@ static TWO_READ: [Step; 4] = [
 
 #[test]
 fn a_flow_terminates(rt: HostRuntime) {
-    let mut flow = flow_of(&rt, rt.alloc(), SINK_OF_TWO, &[0], &[]);
-    play(&rt, &mut flow, &TWO_READ);
-    drop(flow);
+    play(&rt, rt.alloc(), SINK_OF_TWO, &[0], &[], &TWO_READ);
 }
 
 static GROWN: [Step; 8] = [
@@ -198,49 +232,39 @@ static GROWN: [Step; 8] = [
 
 #[test]
 fn a_channel_grows_where_the_outside_can_not_help(rt: HostRuntime) {
-    let mut flow = flow_of(&rt, rt.alloc(), OUTPUT_AND_GROWTH, &[], &[0]);
-    play(&rt, &mut flow, &GROWN);
-    drop(flow);
+    play(&rt, rt.alloc(), OUTPUT_AND_GROWTH, &[], &[0], &GROWN);
 }
-
-fn assert_places<R: Abort>(rt: &R, alloc: Global, flow: &CardFlow, due: &[Place]) {
-    let places = places_of(alloc, flow.net(), flow.standings()).expect(rt, "no memory");
-    same(rt, "places", places.as_slice(), due);
-}
-
-static TWO_AND_ONE: [Step; 2] = [Step::Feed(0, &[1, 2]), Step::Feed(1, &[10])];
 
 /// The second word of the first input waits in vain for one of the second.
-static WAITS_IN_VAIN: [Step; 4] = [
+static ONE_ENDS: [Step; 11] = [
+    Step::Feed(0, &[1, 2]),
+    Step::Feed(1, &[10]),
+    Step::End(1),
+    Step::Input(1, false),
+    Step::MayFeed(1, false),
+    Step::MayFeed(0, true),
     DEADLOCK,
     Step::Starved(1, true),
     Step::Exhausted(true),
     Step::Drain(5, &[11]),
-];
-
-static PLACES: [Place; 6] = [
-    Place::Stopped,
-    Place::Stopped,
-    Place::Reads(1),
-    Place::Reads(2),
-    Place::Reads(3),
-    Place::Stopped,
+    Step::Places(&[
+        Place::Stopped,
+        Place::Stopped,
+        Place::Reads(1),
+        Place::Reads(2),
+        Place::Reads(3),
+        Place::Stopped,
+    ]),
 ];
 
 #[test]
 fn an_input_ends_and_another_goes_on(rt: HostRuntime) {
-    let mut flow = flow_of(&rt, rt.alloc(), RUNNING_SUM, &[0, 1], &[5]);
-    play(&rt, &mut flow, &TWO_AND_ONE);
-    flow.end_input(1);
-    same(&rt, "ended", flow.is_input(1), false);
-    same(&rt, "no more", flow.may_feed(1, Token::Word(0)), false);
-    same(&rt, "another", flow.may_feed(0, Token::Word(0)), true);
-    play(&rt, &mut flow, &WAITS_IN_VAIN);
-    assert_places(&rt, rt.alloc(), &flow, &PLACES);
-    drop(flow);
+    play(&rt, rt.alloc(), RUNNING_SUM, &[0, 1], &[5], &ONE_ENDS);
 }
 
-static HELD_UP: [Step; 5] = [
+static HELD_UP: [Step; 7] = [
+    Step::Feed(0, &[5, 7]),
+    Step::End(0),
     BLOCKED,
     Step::Exhausted(false),
     Step::Drain(1, &[15]),
@@ -250,20 +274,16 @@ static HELD_UP: [Step; 5] = [
 
 #[test]
 fn a_flow_that_is_held_up_is_not_exhausted(rt: HostRuntime) {
-    let mut flow = flow_of(&rt, rt.alloc(), SCALE, &[0], &[1]);
-    feed_words(&rt, &mut flow, 0, &[5, 7]);
-    flow.end_input(0);
-    play(&rt, &mut flow, &HELD_UP);
-    drop(flow);
+    play(&rt, rt.alloc(), SCALE, &[0], &[1], &HELD_UP);
 }
 
 #[test]
 fn a_flow_tells_of_its_network(rt: HostRuntime) {
     let flow = flow_of(&rt, rt.alloc(), SCALE, &[0], &[1]);
     flow.assure_one_run();
-    same(&rt, "channels", flow.net().channels(), 2);
-    same(&rt, "standings", flow.standings().len(), 3);
-    same(&rt, "input", flow.is_input(0), true);
-    same(&rt, "no input", flow.is_input(1), false);
+    let counts = (flow.net().channels(), flow.standings().len());
+    same(&rt, "channels and standings", counts, (2, 3));
+    let inputs = [flow.is_input(0), flow.is_input(1)];
+    same(&rt, "inputs", inputs, [true, false]);
     drop(flow);
 }

@@ -80,24 +80,23 @@ pub(crate) fn sinks_of<R: Abort>(rt: &R, alloc: Global, layout: Layout) -> Vec<L
 }
 
 /// What is left of the stream of the sums that was fed with bytes, from one layout to another.
-fn served_of<'a, R: Abort>(
+fn served_of<'a, R: Abort, L: Onlooker>(
     rt: &R,
     alloc: Global,
     bytes: &'a [u8],
     from: Layout,
     to: Layout,
+    onlooker: &L,
 ) -> EndedStream<Kinds, &'a [u8], Vec<u8>> {
-    let sources = sources_of(rt, alloc, bytes, from);
-    let sinks = sinks_of(rt, alloc, to);
     let (fed, drained) = (name(rt, alloc, "x"), name(rt, alloc, "y"));
     let stream = opened(rt, alloc, &[fed], &[drained]);
     let stream = stream.ok().expect(rt, "no stream");
     let ends = LaidEnds {
-        sources,
-        sinks,
+        sources: sources_of(rt, alloc, bytes, from),
+        sinks: sinks_of(rt, alloc, to),
         tables: Vec::new(alloc),
     };
-    serve(alloc, stream, ends, &NoOnlooker).expect(rt, "no memory")
+    serve(alloc, stream, ends, onlooker).expect(rt, "no memory")
 }
 
 /// How many records were read and how many tokens were written, and how many of these were clipped.
@@ -140,19 +139,17 @@ fn an_onlooker_sees_how_many_tokens_came_and_went(rt: HostRuntime) {
         read: AtomicU64::new(0),
         written: AtomicU64::new(0),
     };
-    let ends = LaidEnds {
-        sources: sources_of(&rt, alloc, b"3\n-1\n300\n", Layout::PLAIN),
-        sinks: sinks_of(&rt, alloc, Layout::PLAIN),
-        tables: Vec::new(alloc),
-    };
-    let (fed, drained) = (name(&rt, alloc, "x"), name(&rt, alloc, "y"));
-    let stream = opened(&rt, alloc, &[fed], &[drained]);
-    let stream = stream.ok().expect(&rt, "no stream");
-    let served = serve(alloc, stream, ends, &seen).expect(&rt, "no memory");
+    let plain = Layout::PLAIN;
+    let served = served_of(&rt, alloc, b"3\n-1\n300\n", plain, plain, &seen);
     let has_seen = seen.channels.load(Ordering::SeqCst) > 0;
-    same(&rt, "channel", has_seen, true);
-    same(&rt, "read", seen.read.load(Ordering::SeqCst), 3);
-    same(&rt, "written", seen.written.load(Ordering::SeqCst), 3);
+    let read = seen.read.load(Ordering::SeqCst);
+    let written = seen.written.load(Ordering::SeqCst);
+    same(
+        &rt,
+        "channel, read, written",
+        (has_seen, read, written),
+        (true, 3, 3),
+    );
     drop(served);
 }
 
@@ -165,7 +162,14 @@ fn wrote<R: Abort>(rt: &R, outlets: &mut Vec<Outlet<Vec<u8>>>, due: &[u8]) {
 /// Streams a text through the sums, compares what was written and why it ended, and returns whether nothing
 /// is left to do.
 fn streamed<R: Abort>(rt: &R, alloc: Global, text: &str, written: &str, due: StreamFinish) -> bool {
-    let mut served = served_of(rt, alloc, text.as_bytes(), Layout::PLAIN, Layout::PLAIN);
+    let mut served = served_of(
+        rt,
+        alloc,
+        text.as_bytes(),
+        Layout::PLAIN,
+        Layout::PLAIN,
+        &NoOnlooker,
+    );
     same(rt, "finish", served.finish, due);
     wrote(rt, &mut served.outlets, written.as_bytes());
     let is_exhausted = served.flow.is_exhausted();
@@ -194,9 +198,9 @@ struct Sampled<'a> {
 /// Streams samples of two bytes, the low one first, through the sums.
 fn compare_samples<R: Abort>(rt: &R, alloc: Global, bytes: &[u8], to: Layout, due: &Sampled<'_>) {
     let from = samples(Width::Two, Endian::Little, false);
-    let mut served = served_of(rt, alloc, bytes, from, to);
-    same(rt, "finish", served.finish, due.finish);
-    same(rt, "counts", counted(rt, &served), due.counts);
+    let mut served = served_of(rt, alloc, bytes, from, to, &NoOnlooker);
+    let ended = (served.finish, counted(rt, &served));
+    same(rt, "finish, counts", ended, (due.finish, due.counts));
     wrote(rt, &mut served.outlets, due.written);
     drop(served);
 }
@@ -255,7 +259,7 @@ fn sums_come_of_a_column(rt: HostRuntime) {
         },
     });
     let bytes = b"a;0.5\n\"b;c\";-1.25;7\nd;\n";
-    let mut served = served_of(&rt, alloc, bytes, from, Layout::PLAIN);
+    let mut served = served_of(&rt, alloc, bytes, from, Layout::PLAIN, &NoOnlooker);
     let empty = StreamFinish::Refused(0, Refusal::Fault(RecordFault::EmptyField));
     same(&rt, "finish", served.finish, empty);
     wrote(&rt, &mut served.outlets, b"50\n-75\n");
@@ -265,12 +269,13 @@ fn sums_come_of_a_column(rt: HostRuntime) {
 #[test]
 fn a_long_line_is_read_on(rt: HostRuntime) {
     let alloc = rt.alloc();
+    let plain = Layout::PLAIN;
     let mut text = Vec::new(alloc);
     for _ in 0..4096 {
         text.push(b'#').expect(&rt, "no memory");
     }
     text.extend_from_slice(b"\n2\n").expect(&rt, "no memory");
-    let mut served = served_of(&rt, alloc, text.as_slice(), Layout::PLAIN, Layout::PLAIN);
+    let mut served = served_of(&rt, alloc, text.as_slice(), plain, plain, &NoOnlooker);
     same(
         &rt,
         "finish",
@@ -298,18 +303,20 @@ fn sums_come_of_lines(rt: HostRuntime) {
 /// What is left of a source and of a sink.
 #[test]
 fn nothing_waits_after_a_stream(rt: HostRuntime) {
-    let served = served_of(&rt, rt.alloc(), b"3\n4\n", Layout::PLAIN, Layout::PLAIN);
+    let plain = Layout::PLAIN;
+    let served = served_of(&rt, rt.alloc(), b"3\n4\n", plain, plain, &NoOnlooker);
     let inlet = served.inlets.as_slice().first().expect(&rt, "no source");
     let outlet = served.outlets.as_slice().first().expect(&rt, "no sink");
-    same(&rt, "left of the source", inlet.source().len(), 0);
+    let left = (inlet.source().len(), outlet.waiting());
+    same(&rt, "left, waiting", left, (0, 0));
     same(&rt, "written", outlet.sink().as_slice(), b"3\n7\n");
-    same(&rt, "waiting", outlet.waiting(), 0);
 }
 
 /// A line that is refused is held with what was read behind it.
 #[test]
 fn what_is_refused_is_held(rt: HostRuntime) {
-    let served = served_of(&rt, rt.alloc(), b"3\nx\n5\n", Layout::PLAIN, Layout::PLAIN);
+    let plain = Layout::PLAIN;
+    let served = served_of(&rt, rt.alloc(), b"3\nx\n5\n", plain, plain, &NoOnlooker);
     let inlet = served.inlets.as_slice().first().expect(&rt, "no source");
     same(&rt, "held", inlet.held(), 4);
 }

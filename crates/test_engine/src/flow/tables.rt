@@ -1,12 +1,13 @@
 //! Streams into files of several channels.
 use crate::checks::same;
+use crate::flow::streams::{name, sources_of};
 use hox_stream::{
     EndedStream, Exits, LaidEnds, LaidOut, LaidTable, MOST_AHEAD, NoOnlooker, StreamFinish,
     TableOutlet, open_stream, serve,
 };
 use kpn_body::Standard;
 use kpn_compute::Both;
-use kpn_model::{End, Text, Verdict};
+use kpn_model::{End, Verdict};
 use kpn_net::read_sketch;
 use kpn_tokens::{Coding, Decimals, Endian, Layout, Sample, Separator, Table, Width};
 use std::alloc::Global;
@@ -30,10 +31,6 @@ channel = [
   { name = "z", from = "before", to = "right" },
 ]
 "#;
-
-fn name<R: Abort>(rt: &R, alloc: Global, name: &str) -> Text {
-    Text::new(String::from_str(alloc, name).expect(rt, "no memory"))
-}
 
 fn table_of<R: Abort>(rt: &R, alloc: Global, table: Table, width: usize) -> LaidTable<Vec<u8>> {
     let mut columns = Vec::new(alloc);
@@ -62,12 +59,7 @@ fn paired<'a, R: Abort>(
     bytes: &'a [u8],
     drained: Drained<'_>,
 ) -> EndedStream<Kinds, &'a [u8], Vec<u8>> {
-    let mut sources = Vec::new(alloc);
-    let source = LaidOut {
-        stream: bytes,
-        layout: Layout::PLAIN,
-    };
-    sources.push(source).expect(rt, "no memory");
+    let sources = sources_of(rt, alloc, bytes, Layout::PLAIN);
     let mut outlets = Vec::new(alloc);
     for _ in 0..drained.sinks {
         let sink = LaidOut {
@@ -126,8 +118,12 @@ fn rows_hold_a_word_of_each_channel(rt: HostRuntime) {
         StreamFinish::Over(End::Deadlock),
     );
     let table = served.tables.as_slice().first().expect(&rt, "no table");
-    same(&rt, "width", table.width(), 2);
-    same(&rt, "waiting", table.waiting(), 0);
+    same(
+        &rt,
+        "width, waiting",
+        (table.width(), table.waiting()),
+        (2, 0),
+    );
     let text = written(&rt, &mut served.tables);
     same(
         &rt,
@@ -192,8 +188,8 @@ fn frames_hold_a_sample_of_each_channel(rt: HostRuntime) {
     drop(served);
     let mut served = paired(&rt, alloc, b"3\n300\n", samples(Width::One, true));
     let table = served.tables.as_slice().first().expect(&rt, "no table");
-    same(&rt, "first column", counted(table, 0), Some((2, 1)));
-    same(&rt, "second column", counted(table, 1), Some((3, 1)));
+    let columns = [counted(table, 0), counted(table, 1)];
+    same(&rt, "columns", columns, [Some((2, 1)), Some((3, 1))]);
     let text = written(&rt, &mut served.tables);
     same(
         &rt,
@@ -238,12 +234,7 @@ fn apart<R: Abort>(rt: &R, alloc: Global, words: usize) -> (StreamFinish, usize)
     for _ in 0..words {
         text.extend_from_slice(b"7\n").expect(rt, "no memory");
     }
-    let mut sources = Vec::new(alloc);
-    let source = LaidOut {
-        stream: text.as_slice(),
-        layout: Layout::PLAIN,
-    };
-    sources.push(source).expect(rt, "no memory");
+    let sources = sources_of(rt, alloc, text.as_slice(), Layout::PLAIN);
     let mut tables = Vec::new(alloc);
     let comma = Table::Rows(Separator::Comma);
     tables

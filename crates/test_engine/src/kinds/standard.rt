@@ -10,458 +10,356 @@ use kpn_model::{Act, Answer, Card, Kinds, Local, Signature, Sort};
 use kpn_standard::{Kind, Standard, answer};
 use std::process::Abort;
 
-fn agree(rt: &impl Abort, lines: &[(Answer, Local, Act)]) {
-    for (answer, next, act) in lines {
-        same(rt, "answer", (answer.next, answer.act), (*next, *act));
+/// Compares the answers of a kind with those due.
+fn agree(rt: &impl Abort, kind: &str, answers: &[Answer], due: &[(Local, Act)]) {
+    same(rt, kind, answers.len(), due.len());
+    for (answer, due) in answers.iter().zip(due) {
+        same(rt, kind, (answer.next, answer.act), *due);
     }
 }
+
+static COUNT: [(Local, Act); 7] = [
+    ([1, 0, 0, 0], Write(0, Word(1))),
+    ([1, 0, 0, 0], Write(0, Word(5))),
+    ([3, 0, 0, 0], Write(0, Word(7))),
+    ([3, 0, 0, 0], Stop),
+    ([0, 0, 0, 0], Stop),
+    ([2, 0, 0, 0], Write(0, Word(u64::MAX - 1))),
+    ([u64::MAX, 0, 0, 0], Write(0, Word(u64::MAX - 1))),
+];
 
 #[tactic(auto, using(crate::proofs::Lines::count_lines))]
 #[test]
 fn count_follows_its_lines(rt: HostRuntime) {
-    agree(
-        &rt,
-        &[
-            (
-                count([1, 3, 0], [0, 0, 0, 0], None),
-                [1, 0, 0, 0],
-                Write(0, Word(1)),
-            ),
-            (
-                count([5, 3, 0], [0, 0, 0, 0], None),
-                [1, 0, 0, 0],
-                Write(0, Word(5)),
-            ),
-            (
-                count([5, 3, 0], [2, 0, 0, 0], None),
-                [3, 0, 0, 0],
-                Write(0, Word(7)),
-            ),
-            (count([5, 3, 0], [3, 0, 0, 0], None), [3, 0, 0, 0], Stop),
-            (count([5, 0, 0], [0, 0, 0, 0], None), [0, 0, 0, 0], Stop),
-            (
-                count([u64::MAX - 2, 2, 0], [1, 0, 0, 0], None),
-                [2, 0, 0, 0],
-                Write(0, Word(u64::MAX - 1)),
-            ),
-            (
-                answer(
-                    Card {
-                        kind: 0,
-                        args: [0, u64::MAX, 0],
-                    },
-                    [u64::MAX - 1, 0, 0, 0],
-                    None,
-                ),
-                [u64::MAX, 0, 0, 0],
-                Write(0, Word(u64::MAX - 1)),
-            ),
-        ],
-    );
+    let answers = [
+        count([1, 3, 0], [0, 0, 0, 0], None),
+        count([5, 3, 0], [0, 0, 0, 0], None),
+        count([5, 3, 0], [2, 0, 0, 0], None),
+        count([5, 3, 0], [3, 0, 0, 0], None),
+        count([5, 0, 0], [0, 0, 0, 0], None),
+        count([u64::MAX - 2, 2, 0], [1, 0, 0, 0], None),
+        answer(
+            Card {
+                kind: 0,
+                args: [0, u64::MAX, 0],
+            },
+            [u64::MAX - 1, 0, 0, 0],
+            None,
+        ),
+    ];
+    agree(&rt, "count", &answers, &COUNT);
 }
+
+static SINK: [(Local, Act); 4] = [
+    ([1, 0, 0, 0], Read(0)),
+    ([3, 0, 0, 0], Read(0)),
+    ([3, 0, 0, 0], Stop),
+    ([0, 0, 0, 0], Stop),
+];
 
 #[tactic(auto, using(crate::proofs::Lines::sink_lines))]
 #[test]
 fn sink_follows_its_lines(rt: HostRuntime) {
-    agree(
-        &rt,
-        &[
-            (sink([3, 0, 0], [0, 0, 0, 0], None), [1, 0, 0, 0], Read(0)),
-            (
-                sink([3, 0, 0], [2, 0, 0, 0], Some(Word(9))),
-                [3, 0, 0, 0],
-                Read(0),
-            ),
-            (
-                sink([3, 0, 0], [3, 0, 0, 0], Some(Word(9))),
-                [3, 0, 0, 0],
-                Stop,
-            ),
-            (
-                answer(
-                    Card {
-                        kind: 1,
-                        args: [0, 0, 0],
-                    },
-                    [0, 0, 0, 0],
-                    None,
-                ),
-                [0, 0, 0, 0],
-                Stop,
-            ),
-        ],
-    );
+    let answers = [
+        sink([3, 0, 0], [0, 0, 0, 0], None),
+        sink([3, 0, 0], [2, 0, 0, 0], Some(Word(9))),
+        sink([3, 0, 0], [3, 0, 0, 0], Some(Word(9))),
+        answer(
+            Card {
+                kind: 1,
+                args: [0, 0, 0],
+            },
+            [0, 0, 0, 0],
+            None,
+        ),
+    ];
+    agree(&rt, "sink", &answers, &SINK);
 }
+
+static TAKE: [(Local, Act); 5] = [
+    ([1, 0, 0, 0], Read(0)),
+    ([1, 2, 0, 0], Read(0)),
+    ([0, 3, 0, 0], Write(0, Word(7))),
+    ([0, 3, 0, 0], Stop),
+    ([0, 0, 0, 0], Stop),
+];
 
 #[tactic(auto, using(crate::proofs::Lines::take_lines))]
 #[test]
 fn take_follows_its_lines(rt: HostRuntime) {
-    agree(
-        &rt,
-        &[
-            (take([3, 0, 0], [0, 0, 0, 0], None), [1, 0, 0, 0], Read(0)),
-            (take([3, 0, 0], [0, 2, 0, 0], None), [1, 2, 0, 0], Read(0)),
-            (
-                take([3, 0, 0], [1, 2, 0, 0], Some(Word(7))),
-                [0, 3, 0, 0],
-                Write(0, Word(7)),
-            ),
-            (take([3, 0, 0], [0, 3, 0, 0], None), [0, 3, 0, 0], Stop),
-            (
-                answer(
-                    Card {
-                        kind: 2,
-                        args: [0, 0, 0],
-                    },
-                    [0, 0, 0, 0],
-                    None,
-                ),
-                [0, 0, 0, 0],
-                Stop,
-            ),
-        ],
-    );
+    let answers = [
+        take([3, 0, 0], [0, 0, 0, 0], None),
+        take([3, 0, 0], [0, 2, 0, 0], None),
+        take([3, 0, 0], [1, 2, 0, 0], Some(Word(7))),
+        take([3, 0, 0], [0, 3, 0, 0], None),
+        answer(
+            Card {
+                kind: 2,
+                args: [0, 0, 0],
+            },
+            [0, 0, 0, 0],
+            None,
+        ),
+    ];
+    agree(&rt, "take", &answers, &TAKE);
 }
+
+static COPY: [(Local, Act); 3] = [
+    ([1, 0, 0, 0], Read(0)),
+    ([2, 7, 0, 0], Write(0, Word(7))),
+    ([0, 0, 0, 0], Write(1, Word(7))),
+];
 
 #[tactic(auto, using(crate::proofs::Lines::copy_lines))]
 #[test]
 fn copy_follows_its_lines(rt: HostRuntime) {
-    agree(
-        &rt,
-        &[
-            (copy([0, 0, 0], [0, 0, 0, 0], None), [1, 0, 0, 0], Read(0)),
-            (
-                copy([0, 0, 0], [1, 0, 0, 0], Some(Word(7))),
-                [2, 7, 0, 0],
-                Write(0, Word(7)),
-            ),
-            (
-                answer(
-                    Card {
-                        kind: 3,
-                        args: [0, 0, 0],
-                    },
-                    [2, 7, 0, 0],
-                    None,
-                ),
-                [0, 0, 0, 0],
-                Write(1, Word(7)),
-            ),
-        ],
-    );
+    let answers = [
+        copy([0, 0, 0], [0, 0, 0, 0], None),
+        copy([0, 0, 0], [1, 0, 0, 0], Some(Word(7))),
+        answer(
+            Card {
+                kind: 3,
+                args: [0, 0, 0],
+            },
+            [2, 7, 0, 0],
+            None,
+        ),
+    ];
+    agree(&rt, "copy", &answers, &COPY);
 }
+
+static PREFIX: [(Local, Act); 4] = [
+    ([1, 0, 0, 0], Write(0, Word(7))),
+    ([1, 0, 0, 0], Write(0, Word(4))),
+    ([2, 0, 0, 0], Read(0)),
+    ([1, 0, 0, 0], Write(0, Word(7))),
+];
 
 #[tactic(auto, using(crate::proofs::Lines::prefix_lines))]
 #[test]
 fn prefix_follows_its_lines(rt: HostRuntime) {
-    agree(
-        &rt,
-        &[
-            (
-                prefix([7, 0, 0], [0, 0, 0, 0], None),
-                [1, 0, 0, 0],
-                Write(0, Word(7)),
-            ),
-            (
-                prefix([4, 0, 0], [0, 0, 0, 0], None),
-                [1, 0, 0, 0],
-                Write(0, Word(4)),
-            ),
-            (prefix([4, 0, 0], [1, 0, 0, 0], None), [2, 0, 0, 0], Read(0)),
-            (
-                answer(
-                    Card {
-                        kind: 4,
-                        args: [4, 0, 0],
-                    },
-                    [2, 0, 0, 0],
-                    Some(Word(7)),
-                ),
-                [1, 0, 0, 0],
-                Write(0, Word(7)),
-            ),
-        ],
-    );
+    let answers = [
+        prefix([7, 0, 0], [0, 0, 0, 0], None),
+        prefix([4, 0, 0], [0, 0, 0, 0], None),
+        prefix([4, 0, 0], [1, 0, 0, 0], None),
+        answer(
+            Card {
+                kind: 4,
+                args: [4, 0, 0],
+            },
+            [2, 0, 0, 0],
+            Some(Word(7)),
+        ),
+    ];
+    agree(&rt, "prefix", &answers, &PREFIX);
 }
+
+static ADD: [(Local, Act); 5] = [
+    ([1, 0, 0, 0], Read(0)),
+    ([2, 7, 0, 0], Read(1)),
+    ([0, 0, 0, 0], Write(0, Word(12))),
+    ([0, 0, 0, 0], Write(0, Word(0))),
+    ([0, 0, 0, 0], Write(0, Word(u64::MAX - 1))),
+];
 
 #[tactic(auto, using(crate::proofs::Lines::add_lines))]
 #[test]
 fn add_follows_its_lines(rt: HostRuntime) {
-    agree(
-        &rt,
-        &[
-            (add([0, 0, 0], [0, 0, 0, 0], None), [1, 0, 0, 0], Read(0)),
-            (
-                add([0, 0, 0], [1, 0, 0, 0], Some(Word(7))),
-                [2, 7, 0, 0],
-                Read(1),
-            ),
-            (
-                add([0, 0, 0], [2, 7, 0, 0], Some(Word(5))),
-                [0, 0, 0, 0],
-                Write(0, Word(12)),
-            ),
-            (
-                add([0, 0, 0], [2, u64::MAX, 0, 0], Some(Word(1))),
-                [0, 0, 0, 0],
-                Write(0, Word(0)),
-            ),
-            (
-                answer(
-                    Card {
-                        kind: 5,
-                        args: [0, 0, 0],
-                    },
-                    [2, u64::MAX, 0, 0],
-                    Some(Word(u64::MAX)),
-                ),
-                [0, 0, 0, 0],
-                Write(0, Word(u64::MAX - 1)),
-            ),
-        ],
-    );
+    let answers = [
+        add([0, 0, 0], [0, 0, 0, 0], None),
+        add([0, 0, 0], [1, 0, 0, 0], Some(Word(7))),
+        add([0, 0, 0], [2, 7, 0, 0], Some(Word(5))),
+        add([0, 0, 0], [2, u64::MAX, 0, 0], Some(Word(1))),
+        answer(
+            Card {
+                kind: 5,
+                args: [0, 0, 0],
+            },
+            [2, u64::MAX, 0, 0],
+            Some(Word(u64::MAX)),
+        ),
+    ];
+    agree(&rt, "add", &answers, &ADD);
 }
+
+static SCALE: [(Local, Act); 5] = [
+    ([1, 0, 0, 0], Read(0)),
+    ([1, 0, 0, 0], Read(0)),
+    ([0, 0, 0, 0], Write(0, Word(21))),
+    ([0, 0, 0, 0], Write(0, Word(1 << 63))),
+    ([0, 0, 0, 0], Write(0, Word(0))),
+];
 
 #[tactic(auto, using(crate::proofs::Lines::scale_lines))]
 #[test]
 fn scale_follows_its_lines(rt: HostRuntime) {
-    agree(
-        &rt,
-        &[
-            (scale([2, 0, 0], [0, 0, 0, 0], None), [1, 0, 0, 0], Read(0)),
-            (scale([3, 0, 0], [0, 0, 0, 0], None), [1, 0, 0, 0], Read(0)),
-            (
-                scale([3, 0, 0], [1, 0, 0, 0], Some(Word(7))),
-                [0, 0, 0, 0],
-                Write(0, Word(21)),
-            ),
-            (
-                scale([3, 0, 0], [1, 0, 0, 0], Some(Word(1 << 63))),
-                [0, 0, 0, 0],
-                Write(0, Word(1 << 63)),
-            ),
-            (
-                answer(
-                    Card {
-                        kind: 6,
-                        args: [2, 0, 0],
-                    },
-                    [1, 0, 0, 0],
-                    Some(Word(1 << 63)),
-                ),
-                [0, 0, 0, 0],
-                Write(0, Word(0)),
-            ),
-        ],
-    );
+    let answers = [
+        scale([2, 0, 0], [0, 0, 0, 0], None),
+        scale([3, 0, 0], [0, 0, 0, 0], None),
+        scale([3, 0, 0], [1, 0, 0, 0], Some(Word(7))),
+        scale([3, 0, 0], [1, 0, 0, 0], Some(Word(1 << 63))),
+        answer(
+            Card {
+                kind: 6,
+                args: [2, 0, 0],
+            },
+            [1, 0, 0, 0],
+            Some(Word(1 << 63)),
+        ),
+    ];
+    agree(&rt, "scale", &answers, &SCALE);
 }
+
+static WEAVE: [(Local, Act); 7] = [
+    ([1, 0, 0, 0], Read(0)),
+    ([1, 1, 0, 0], Read(0)),
+    ([0, 1, 0, 0], Write(0, Word(7))),
+    ([2, 0, 0, 0], Write(0, Word(7))),
+    ([3, 2, 0, 0], Read(1)),
+    ([2, 2, 0, 0], Write(0, Word(7))),
+    ([0, 0, 0, 0], Write(0, Word(7))),
+];
 
 #[tactic(auto, using(crate::proofs::Lines::weave_lines))]
 #[test]
 fn weave_follows_its_lines(rt: HostRuntime) {
-    agree(
-        &rt,
-        &[
-            (weave([1, 1, 0], [0, 0, 0, 0], None), [1, 0, 0, 0], Read(0)),
-            (weave([2, 3, 0], [0, 1, 0, 0], None), [1, 1, 0, 0], Read(0)),
-            (
-                weave([2, 3, 0], [1, 0, 0, 0], Some(Word(7))),
-                [0, 1, 0, 0],
-                Write(0, Word(7)),
-            ),
-            (
-                weave([2, 3, 0], [1, 1, 0, 0], Some(Word(7))),
-                [2, 0, 0, 0],
-                Write(0, Word(7)),
-            ),
-            (weave([2, 3, 0], [2, 2, 0, 0], None), [3, 2, 0, 0], Read(1)),
-            (
-                weave([2, 3, 0], [3, 1, 0, 0], Some(Word(7))),
-                [2, 2, 0, 0],
-                Write(0, Word(7)),
-            ),
-            (
-                answer(
-                    Card {
-                        kind: 7,
-                        args: [2, 3, 0],
-                    },
-                    [3, 2, 0, 0],
-                    Some(Word(7)),
-                ),
-                [0, 0, 0, 0],
-                Write(0, Word(7)),
-            ),
-        ],
-    );
+    let answers = [
+        weave([1, 1, 0], [0, 0, 0, 0], None),
+        weave([2, 3, 0], [0, 1, 0, 0], None),
+        weave([2, 3, 0], [1, 0, 0, 0], Some(Word(7))),
+        weave([2, 3, 0], [1, 1, 0, 0], Some(Word(7))),
+        weave([2, 3, 0], [2, 2, 0, 0], None),
+        weave([2, 3, 0], [3, 1, 0, 0], Some(Word(7))),
+        answer(
+            Card {
+                kind: 7,
+                args: [2, 3, 0],
+            },
+            [3, 2, 0, 0],
+            Some(Word(7)),
+        ),
+    ];
+    agree(&rt, "weave", &answers, &WEAVE);
 }
+
+static MERGE: [(Local, Act); 10] = [
+    ([1, 0, 0, 0], Read(0)),
+    ([2, 7, 0, 0], Read(1)),
+    ([3, 0, 9, 0], Write(0, Word(7))),
+    ([4, 9, 0, 0], Write(0, Word(7))),
+    ([0, 0, 0, 0], Write(0, Word(7))),
+    ([5, 0, 9, 0], Read(0)),
+    ([2, 9, 0, 0], Read(1)),
+    ([3, 0, 9, 0], Write(0, Word(8))),
+    ([4, 9, 0, 0], Write(0, Word(8))),
+    ([0, 0, 0, 0], Write(0, Word(9))),
+];
 
 #[tactic(auto, using(crate::proofs::Lines::merge_lines))]
 #[test]
 fn merge_follows_its_lines(rt: HostRuntime) {
-    agree(
-        &rt,
-        &[
-            (merge([0, 0, 0], [0, 0, 0, 0], None), [1, 0, 0, 0], Read(0)),
-            (
-                merge([0, 0, 0], [1, 0, 0, 0], Some(Word(7))),
-                [2, 7, 0, 0],
-                Read(1),
-            ),
-            (
-                merge([0, 0, 0], [2, 7, 0, 0], Some(Word(9))),
-                [3, 0, 9, 0],
-                Write(0, Word(7)),
-            ),
-            (
-                merge([0, 0, 0], [2, 9, 0, 0], Some(Word(7))),
-                [4, 9, 0, 0],
-                Write(0, Word(7)),
-            ),
-            (
-                merge([0, 0, 0], [2, 7, 0, 0], Some(Word(7))),
-                [0, 0, 0, 0],
-                Write(0, Word(7)),
-            ),
-            (merge([0, 0, 0], [3, 0, 9, 0], None), [5, 0, 9, 0], Read(0)),
-            (merge([0, 0, 0], [4, 9, 0, 0], None), [2, 9, 0, 0], Read(1)),
-            (
-                merge([0, 0, 0], [5, 0, 9, 0], Some(Word(8))),
-                [3, 0, 9, 0],
-                Write(0, Word(8)),
-            ),
-            (
-                merge([0, 0, 0], [5, 0, 8, 0], Some(Word(9))),
-                [4, 9, 0, 0],
-                Write(0, Word(8)),
-            ),
-            (
-                answer(
-                    Card {
-                        kind: 8,
-                        args: [0, 0, 0],
-                    },
-                    [5, 0, 9, 0],
-                    Some(Word(9)),
-                ),
-                [0, 0, 0, 0],
-                Write(0, Word(9)),
-            ),
-        ],
-    );
+    let answers = [
+        merge([0, 0, 0], [0, 0, 0, 0], None),
+        merge([0, 0, 0], [1, 0, 0, 0], Some(Word(7))),
+        merge([0, 0, 0], [2, 7, 0, 0], Some(Word(9))),
+        merge([0, 0, 0], [2, 9, 0, 0], Some(Word(7))),
+        merge([0, 0, 0], [2, 7, 0, 0], Some(Word(7))),
+        merge([0, 0, 0], [3, 0, 9, 0], None),
+        merge([0, 0, 0], [4, 9, 0, 0], None),
+        merge([0, 0, 0], [5, 0, 9, 0], Some(Word(8))),
+        merge([0, 0, 0], [5, 0, 8, 0], Some(Word(9))),
+        answer(
+            Card {
+                kind: 8,
+                args: [0, 0, 0],
+            },
+            [5, 0, 9, 0],
+            Some(Word(9)),
+        ),
+    ];
+    agree(&rt, "merge", &answers, &MERGE);
 }
+
+static DIVIDES: [(Local, Act); 5] = [
+    ([1, 0, 0, 0], Read(0)),
+    ([1, 0, 0, 0], Read(0)),
+    ([0, 0, 0, 0], Write(0, Flag(true))),
+    ([0, 0, 0, 0], Write(0, Flag(false))),
+    ([0, 0, 0, 0], Write(0, Flag(true))),
+];
 
 #[tactic(auto, using(crate::proofs::Lines::divides_lines))]
 #[test]
 fn divides_follows_its_lines(rt: HostRuntime) {
-    agree(
-        &rt,
-        &[
-            (
-                divides([2, 0, 0], [0, 0, 0, 0], None),
-                [1, 0, 0, 0],
-                Read(0),
-            ),
-            (
-                divides([3, 0, 0], [0, 0, 0, 0], None),
-                [1, 0, 0, 0],
-                Read(0),
-            ),
-            (
-                divides([3, 0, 0], [1, 0, 0, 0], Some(Word(9))),
-                [0, 0, 0, 0],
-                Write(0, Flag(true)),
-            ),
-            (
-                divides([3, 0, 0], [1, 0, 0, 0], Some(Word(10))),
-                [0, 0, 0, 0],
-                Write(0, Flag(false)),
-            ),
-            (
-                answer(
-                    Card {
-                        kind: 9,
-                        args: [1, 0, 0],
-                    },
-                    [1, 0, 0, 0],
-                    Some(Word(10)),
-                ),
-                [0, 0, 0, 0],
-                Write(0, Flag(true)),
-            ),
-        ],
-    );
+    let answers = [
+        divides([2, 0, 0], [0, 0, 0, 0], None),
+        divides([3, 0, 0], [0, 0, 0, 0], None),
+        divides([3, 0, 0], [1, 0, 0, 0], Some(Word(9))),
+        divides([3, 0, 0], [1, 0, 0, 0], Some(Word(10))),
+        answer(
+            Card {
+                kind: 9,
+                args: [1, 0, 0],
+            },
+            [1, 0, 0, 0],
+            Some(Word(10)),
+        ),
+    ];
+    agree(&rt, "divides", &answers, &DIVIDES);
 }
+
+static SWITCH: [(Local, Act); 5] = [
+    ([1, 0, 0, 0], Read(1)),
+    ([2, 1, 0, 0], Read(0)),
+    ([2, 0, 0, 0], Read(0)),
+    ([0, 0, 0, 0], Write(0, Word(7))),
+    ([0, 0, 0, 0], Write(1, Word(7))),
+];
 
 #[tactic(auto, using(crate::proofs::Lines::switch_lines))]
 #[test]
 fn switch_follows_its_lines(rt: HostRuntime) {
-    agree(
-        &rt,
-        &[
-            (switch([0, 0, 0], [0, 0, 0, 0], None), [1, 0, 0, 0], Read(1)),
-            (
-                switch([0, 0, 0], [1, 0, 0, 0], Some(Flag(true))),
-                [2, 1, 0, 0],
-                Read(0),
-            ),
-            (
-                switch([0, 0, 0], [1, 0, 0, 0], Some(Flag(false))),
-                [2, 0, 0, 0],
-                Read(0),
-            ),
-            (
-                switch([0, 0, 0], [2, 0, 0, 0], Some(Word(7))),
-                [0, 0, 0, 0],
-                Write(0, Word(7)),
-            ),
-            (
-                answer(
-                    Card {
-                        kind: 10,
-                        args: [0, 0, 0],
-                    },
-                    [2, 1, 0, 0],
-                    Some(Word(7)),
-                ),
-                [0, 0, 0, 0],
-                Write(1, Word(7)),
-            ),
-        ],
-    );
+    let answers = [
+        switch([0, 0, 0], [0, 0, 0, 0], None),
+        switch([0, 0, 0], [1, 0, 0, 0], Some(Flag(true))),
+        switch([0, 0, 0], [1, 0, 0, 0], Some(Flag(false))),
+        switch([0, 0, 0], [2, 0, 0, 0], Some(Word(7))),
+        answer(
+            Card {
+                kind: 10,
+                args: [0, 0, 0],
+            },
+            [2, 1, 0, 0],
+            Some(Word(7)),
+        ),
+    ];
+    agree(&rt, "switch", &answers, &SWITCH);
 }
+
+static SELECT: [(Local, Act); 4] = [
+    ([1, 0, 0, 0], Read(2)),
+    ([2, 0, 0, 0], Read(1)),
+    ([2, 0, 0, 0], Read(0)),
+    ([0, 0, 0, 0], Write(0, Word(7))),
+];
 
 #[tactic(auto, using(crate::proofs::Lines::select_lines))]
 #[test]
 fn select_follows_its_lines(rt: HostRuntime) {
-    agree(
-        &rt,
-        &[
-            (select([0, 0, 0], [0, 0, 0, 0], None), [1, 0, 0, 0], Read(2)),
-            (
-                select([0, 0, 0], [1, 0, 0, 0], Some(Flag(true))),
-                [2, 0, 0, 0],
-                Read(1),
-            ),
-            (
-                select([0, 0, 0], [1, 0, 0, 0], Some(Flag(false))),
-                [2, 0, 0, 0],
-                Read(0),
-            ),
-            (
-                answer(
-                    Card {
-                        kind: 11,
-                        args: [0, 0, 0],
-                    },
-                    [2, 0, 0, 0],
-                    Some(Word(7)),
-                ),
-                [0, 0, 0, 0],
-                Write(0, Word(7)),
-            ),
-        ],
-    );
+    let answers = [
+        select([0, 0, 0], [0, 0, 0, 0], None),
+        select([0, 0, 0], [1, 0, 0, 0], Some(Flag(true))),
+        select([0, 0, 0], [1, 0, 0, 0], Some(Flag(false))),
+        answer(
+            Card {
+                kind: 11,
+                args: [0, 0, 0],
+            },
+            [2, 0, 0, 0],
+            Some(Word(7)),
+        ),
+    ];
+    agree(&rt, "select", &answers, &SELECT);
 }
 
 /// A name, the number of its kind, and how many arguments the kind takes.
@@ -532,33 +430,38 @@ const W: Option<Sort> = Some(Sort::Words);
 
 const F: Option<Sort> = Some(Sort::Flags);
 
+/// A kind's number, arguments, and the sorts of its inputs and outputs.
+static PORTS: [(u16, [u64; 3], [Option<Sort>; 3], [Option<Sort>; 3]); 14] = [
+    (0, [1, 3, 0], [None, None, None], [W, None, None]),
+    (0, [5, 3, 0], [None, None, None], [W, None, None]),
+    (0, [u64::MAX - 3, 3, 0], [None, None, None], [W, None, None]),
+    (1, [0, 0, 0], [W, None, None], [None, None, None]),
+    (2, [u64::MAX, 0, 0], [W, None, None], [W, None, None]),
+    (3, [0, 0, 0], [W, None, None], [W, W, None]),
+    (4, [4, 0, 0], [W, None, None], [W, None, None]),
+    (5, [0, 0, 0], [W, W, None], [W, None, None]),
+    (6, [0, 0, 0], [W, None, None], [W, None, None]),
+    (7, [1, 1, 0], [W, W, None], [W, None, None]),
+    (8, [0, 0, 0], [W, W, None], [W, None, None]),
+    (9, [1, 0, 0], [W, None, None], [F, None, None]),
+    (10, [0, 0, 0], [W, F, None], [W, W, None]),
+    (11, [0, 0, 0], [W, W, F], [W, None, None]),
+];
+
+/// Returns the ports of a card, and its first local state.
+fn begun<K: Kinds>(card: Card) -> Option<(Signature, Local)> {
+    let ports = K::signature(&card)?;
+    Some((ports, K::start(&card)))
+}
+
 #[test]
-fn arguments_have_ports(rt: HostRuntime) {
-    let ports_of = [
-        (0, [1, 3, 0], [None, None, None], [W, None, None]),
-        (0, [5, 3, 0], [None, None, None], [W, None, None]),
-        (0, [u64::MAX - 3, 3, 0], [None, None, None], [W, None, None]),
-        (1, [0, 0, 0], [W, None, None], [None, None, None]),
-        (2, [u64::MAX, 0, 0], [W, None, None], [W, None, None]),
-        (3, [0, 0, 0], [W, None, None], [W, W, None]),
-        (4, [4, 0, 0], [W, None, None], [W, None, None]),
-        (5, [0, 0, 0], [W, W, None], [W, None, None]),
-        (6, [0, 0, 0], [W, None, None], [W, None, None]),
-        (7, [1, 1, 0], [W, W, None], [W, None, None]),
-        (8, [0, 0, 0], [W, W, None], [W, None, None]),
-        (9, [1, 0, 0], [W, None, None], [F, None, None]),
-        (10, [0, 0, 0], [W, F, None], [W, W, None]),
-        (11, [0, 0, 0], [W, W, F], [W, None, None]),
-    ];
-    for (kind, args, ins, outs) in ports_of {
+fn arguments_have_ports_and_a_start_at_zero(rt: HostRuntime) {
+    let rows = PORTS;
+    for (kind, args, ins, outs) in rows {
         let card = Card { kind, args };
-        let due = Some(Signature { ins, outs });
-        same(
-            &rt,
-            "ports",
-            (card, ports_given::<Standard>(card)),
-            (card, due),
-        );
+        let ports = Signature { ins, outs };
+        let due = (card, Some((ports, [0; 4])));
+        same(&rt, "ports", (card, begun::<Standard>(card)), due);
     }
 }
 
@@ -594,27 +497,5 @@ fn other_arguments_are_refused(rt: HostRuntime) {
         };
         let found = (card, ports_given::<Standard>(card));
         same(&rt, "refused", found, (card, None));
-    }
-}
-
-fn start_of<K: Kinds>(card: Card) -> Option<Local> {
-    K::signature(&card)?;
-    Some(K::start(&card))
-}
-
-#[test]
-fn starts_at_zero(rt: HostRuntime) {
-    let zeros = [0; 3];
-    let cards = [
-        (0, [1, 3, 0]),
-        (3, zeros),
-        (5, zeros),
-        (8, zeros),
-        (10, zeros),
-        (11, zeros),
-    ];
-    for (kind, args) in cards {
-        let start = start_of::<Standard>(Card { kind, args });
-        same(&rt, "start", (kind, start), (kind, Some([0; 4])));
     }
 }

@@ -125,15 +125,13 @@ fn compare_counter<R: Abort>(rt: &R, net: &Net<CountAndSink>) {
         net.process_name(0),
         net.process_name(1),
         net.channel_name(0),
-    ];
-    same(rt, "names", names, ["src", "snk", "c0"]);
-    let or_nothing = [
         names::process_name(net, 1),
         names::process_name(net, 2),
         names::channel_name(net, 0),
         names::channel_name(net, 1),
     ];
-    same(rt, "names or nothing", or_nothing, ["snk", "", "c0", ""]);
+    let due = ["src", "snk", "c0", "snk", "", "c0", ""];
+    same(rt, "names, or nothing", names, due);
     let sizes = [net.capacity(0), net.step(), net.ceiling()];
     same(rt, "sizes", (sizes, net.budget()), ([1, 1, 65535], 10000));
 }
@@ -144,18 +142,29 @@ fn compare_found<R: Abort>(rt: &R, net: &Net<CountAndSink>) {
     let (none, first) = (None, Some(0));
     let by_name = [net.find_channel("c0"), net.find_channel("c1")];
     same(rt, "found by name", by_name, [first, none]);
-    let inputs = [net.in_of(1, 0), net.in_of(0, 0), net.in_of(2, 0)];
-    same(rt, "inputs", inputs, [first, none, none]);
-    let outputs = [net.out_of(0, 0), net.out_of(0, 1), net.out_of(2, 0)];
-    same(rt, "outputs", outputs, [first, none, none]);
-    let inputs = [net.input_at(1, 0), net.input_at(0, 0), net.input_at(1, 3)];
-    same(rt, "inputs of processes", inputs, [first, none, none]);
+    let inputs = [
+        net.in_of(1, 0),
+        net.in_of(0, 0),
+        net.in_of(2, 0),
+        net.input_at(1, 0),
+        net.input_at(0, 0),
+        net.input_at(1, 3),
+    ];
+    same(rt, "inputs", inputs, [first, none, none, first, none, none]);
     let outputs = [
+        net.out_of(0, 0),
+        net.out_of(0, 1),
+        net.out_of(2, 0),
         net.output_at(0, 0),
         net.output_at(0, 1),
         net.output_at(0, 3),
     ];
-    same(rt, "outputs of processes", outputs, [first, none, none]);
+    same(
+        rt,
+        "outputs",
+        outputs,
+        [first, none, none, first, none, none],
+    );
 }
 
 #[test]

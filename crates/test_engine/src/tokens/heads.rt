@@ -1,10 +1,7 @@
 //! Heads of WAV files.
-use super::minus;
+use super::{minus, reads};
 use crate::checks::same;
-use kpn_tokens::{
-    Layout, Sort, Token, WavFault, WavHead, Width, append_wav_head, read_tokens, wav_head,
-    wav_sample,
-};
+use kpn_tokens::{Layout, WavFault, WavHead, Width, append_wav_head, wav_head, wav_sample};
 use std::alloc::AllocGlobal;
 use std::process::Abort;
 
@@ -46,12 +43,11 @@ fn reads_heads_and_writes_them(rt: HostRuntime) {
         };
         same(&rt, "head", head, due);
         assert!(rt; file.len() >= 44);
-        for (channel, words) in [(0, [1, 100]), (1, [minus(1), minus(100)])] {
-            let layout = Layout::Frames(head.frame(channel).expect(&rt, "a channel"));
-            let tokens = read_tokens(alloc, layout, Sort::Words, &file[44..]).expect(&rt, "words");
-            let due = words.map(Token::Word);
-            same(&rt, "channel", tokens.as_slice(), due.as_slice());
-        }
+        let left = head.frame(0).expect(&rt, "a channel");
+        reads(&rt, alloc, Layout::Frames(left), &file[44..], &[1, 100]);
+        let right = head.frame(1).expect(&rt, "a channel");
+        let words = [minus(1), minus(100)];
+        reads(&rt, alloc, Layout::Frames(right), &file[44..], &words);
         same(&rt, "no channel", head.frame(2), None);
         let mut out = Vec::new(alloc);
         append_wav_head(&mut out, 2, *width, 8000, Some(2)).expect(&rt, "no memory");
@@ -133,10 +129,14 @@ fn refuses_a_long_head_in_whatever_pieces(rt: HostRuntime) {
 #[test]
 fn refuses_other_heads(rt: HostRuntime) {
     let other = b"RIFX,\x00\x00\x00WAVE";
-    same(&rt, "big", wav_head(other, false), Err(WavFault::NotWav));
     let float =
         b"RIFF,\x00\x00\x00WAVEfmt \x10\x00\x00\x00\x03\x00\x01\x00@\x1f\x00\x00\x00}\x00\x00\x04\x00 \x00data\x08\x00\x00\x00";
-    same(&rt, "float", wav_head(float, false), Err(WavFault::NotPcm));
     let bare = b"RIFF,\x00\x00\x00WAVEdata\x08\x00\x00\x00";
-    same(&rt, "bare", wav_head(bare, false), Err(WavFault::NoFormat));
+    let found = [
+        wav_head(other, false),
+        wav_head(float, false),
+        wav_head(bare, false),
+    ];
+    let due = [WavFault::NotWav, WavFault::NotPcm, WavFault::NoFormat].map(Err);
+    same(&rt, "big, float, bare", found, due);
 }

@@ -126,8 +126,7 @@ static FIRST: [(&[u8], usize, Result<Option<Token>, RecordFault>); 9] = [
 fn tells_the_first_line(rt: HostRuntime) {
     for (text, length, due) in &FIRST {
         let line = first_line(Decimals::WHOLE, Sort::Words, *text).expect(&rt, "a line");
-        same(&rt, "length", line.length, *length);
-        same(&rt, "line", line.said, *due);
+        same(&rt, "line", (line.length, line.said), (*length, *due));
     }
     let none = first_line(Decimals::WHOLE, Sort::Words, b"12");
     same(&rt, "no line feed", none.is_none(), true);

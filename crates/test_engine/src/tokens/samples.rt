@@ -55,10 +55,12 @@ fn tells_what_a_frame_says(rt: HostRuntime) {
         sample: sample(Width::Two, Coding::Signed, Endian::Little),
         after: 1,
     };
-    let said = token_of_frame(&frame, Sort::Words, b"\x07\xfe\xff\x07");
-    same(&rt, "frame", said, Ok(Some(Token::Word(minus(2)))));
-    let said = token_of_frame(&frame, Sort::Words, b"\x07\xfe\xff");
-    same(&rt, "cut short", said, Err(RecordFault::CutShort));
+    let said = [
+        token_of_frame(&frame, Sort::Words, b"\x07\xfe\xff\x07"),
+        token_of_frame(&frame, Sort::Words, b"\x07\xfe\xff"),
+    ];
+    let due = [Ok(Some(Token::Word(minus(2)))), Err(RecordFault::CutShort)];
+    same(&rt, "whole, cut short", said, due);
 }
 
 #[test]
@@ -175,7 +177,11 @@ fn samples_and_frames_have_bytes(rt: HostRuntime) {
             after: 5,
             ..Frame::of(sample(width, Coding::Signed, Endian::Little))
         };
-        same(&rt, "bytes", width.bytes(), bytes);
-        same(&rt, "size", frame.size(), size);
+        same(
+            &rt,
+            "bytes, size",
+            (width.bytes(), frame.size()),
+            (bytes, size),
+        );
     }
 }

@@ -1,12 +1,10 @@
 //! Several channels side by side.
-use super::minus;
+use super::{minus, reads};
 use crate::checks::same;
 use kpn_tokens::{
-    Cell, Coding, Column, Decimals, Endian, Frame, Layout, Sample, Separator, Sort, Table, Token,
-    Width, append_row, count_misfits, read_tokens,
+    Cell, Coding, Column, Decimals, Endian, Frame, Layout, Sample, Separator, Table, Token, Width,
+    append_row, count_misfits,
 };
-use std::alloc::Global;
-use std::process::Abort;
 
 /// Samples of a WAV file of 16 bits.
 const SHORT: Sample = Sample {
@@ -25,12 +23,6 @@ fn cells(tokens: [Option<Token>; 3]) -> [Cell; 3] {
 
 /// 1, 256 and -2 on the left, -1, 2 and 3 on the right.
 const STEREO: &[u8] = b"\x01\x00\xff\xff\x00\x01\x02\x00\xfe\xff\x03\x00";
-
-fn reads(rt: &impl Abort, alloc: Global, layout: Layout, bytes: &[u8], words: [u64; 3]) {
-    let tokens = read_tokens(alloc, layout, Sort::Words, bytes).expect(rt, "words");
-    let due = words.map(Token::Word);
-    same(rt, "column", tokens.as_slice(), due.as_slice());
-}
 
 #[test]
 fn writes_frames_of_two_channels(rt: HostRuntime) {
@@ -53,8 +45,14 @@ fn writes_frames_of_two_channels(rt: HostRuntime) {
         before: 2,
         ..Frame::of(SHORT)
     };
-    reads(&rt, alloc, Layout::Frames(left), STEREO, [1, 256, minus(2)]);
-    reads(&rt, alloc, Layout::Frames(right), STEREO, [minus(1), 2, 3]);
+    reads(
+        &rt,
+        alloc,
+        Layout::Frames(left),
+        STEREO,
+        &[1, 256, minus(2)],
+    );
+    reads(&rt, alloc, Layout::Frames(right), STEREO, &[minus(1), 2, 3]);
 }
 
 #[test]
@@ -90,7 +88,7 @@ fn writes_rows_that_are_read_column_by_column(rt: HostRuntime) {
             separator: Separator::Comma,
             decimals: Decimals::WHOLE,
         });
-        reads(&rt, alloc, layout, due, *words);
+        reads(&rt, alloc, layout, due, words);
     }
 }
 
@@ -99,8 +97,11 @@ fn finds_what_does_not_fit_a_channel(rt: HostRuntime) {
     let tokens = [1, 32767, 32768, minus(32769)].map(Token::Word);
     let layout = Table::Samples(SHORT).layout(Decimals::WHOLE);
     same(&rt, "frame", layout, Layout::Frames(Frame::of(SHORT)));
-    same(&rt, "first", count_misfits(layout, &tokens), Err(2));
-    same(&rt, "none", count_misfits(layout, &tokens[..2]), Ok(0));
+    let misfits = [
+        count_misfits(layout, &tokens),
+        count_misfits(layout, &tokens[..2]),
+    ];
+    same(&rt, "first, none", misfits, [Err(2), Ok(0)]);
     let clipping = Sample {
         clips: true,
         ..SHORT

@@ -10,10 +10,9 @@ ghost use Rattle.kpn_watch.specs.declared.progress.Phase.TheVariants.{Memory, Ru
 use crate::checks::same;
 use kpn_model::{Deed, End, Entry, Token};
 use kpn_state::{Keeper, Packed};
-use kpn_watch::{Board, CountingPublisher, Phase, Progress, Publisher, Watcher};
+use kpn_watch::{Board, CountingPublisher, Phase, Progress, Publisher, WatchFault, Watcher};
 use std::alloc::Global;
 use std::process::Abort;
-use std::test::Fail;
 
 fn progress(entries: u32, growths: u32, phase: Phase) -> Progress {
     Progress {
@@ -23,54 +22,51 @@ fn progress(entries: u32, growths: u32, phase: Phase) -> Progress {
     }
 }
 
-fn looks_between(
-    board: &Board,
-    publisher: &mut Publisher,
-    watcher: &mut Watcher,
-) -> (Progress, Progress)
-    requires publisher { (publisher.old.board ≡ board.now) × (publisher.old.entries ≡ []) × (publisher.old.phase ≡ Phase.Running) }
-    requires watcher { watcher.old.board ≡ board.now }
-    ensures publisher { publisher.new.board ≡ board.now }
-    ensures watcher { watcher.new.board ≡ board.now }
-{
-    let put = Entry::Did {
-        process: 0,
-        deed: Deed::Put {
-            channel: 0,
-            token: Token::Word(1),
-        },
-    };
-    let grew = Entry::Grew { channel: 0, to: 2 };
-    let stopped = Entry::Did {
-        process: 1,
-        deed: Deed::Stopped,
-    };
-    board.publish(publisher, &[put], 0, Phase::Running);
-    let early = board.look(watcher);
-    board.publish(publisher, &[put, grew, stopped], 1, Phase::Terminated);
-    (early, board.look(watcher))
-}
+/// Nothing yet, then a word, then a growth and an end.
+static SEEN: [Progress; 3] = [
+    Progress {
+        entries: 0,
+        growths: 0,
+        phase: Phase::Running,
+    },
+    Progress {
+        entries: 1,
+        growths: 0,
+        phase: Phase::Running,
+    },
+    Progress {
+        entries: 3,
+        growths: 1,
+        phase: Phase::Terminated,
+    },
+];
 
 #[test]
-fn a_look_shows_a_growth(rt: HostRuntime) -> Result<(), Fail> {
-    let (board, mut publisher) = Board::new(rt.alloc())?;
-    let mut watcher = board.split(&mut publisher)?;
-    let seen = looks_between(&board, &mut publisher, &mut watcher);
-    board.join(watcher, &mut publisher);
-    let due = (
-        progress(1, 0, Phase::Running),
-        progress(3, 1, Phase::Terminated),
+fn a_look_shows_a_growth(rt: HostRuntime) {
+    let (board, mut publisher) = Board::new(rt.alloc()).expect(&rt, "no memory");
+    let mut watcher = board.split(&mut publisher).expect(&rt, "no watcher");
+    let first = put(1);
+    let grew = Entry::Grew { channel: 0, to: 2 };
+    let nothing = board.look(&mut watcher);
+    board.publish(&mut publisher, &[first], 0, Phase::Running);
+    let early = board.look(&mut watcher);
+    board.publish(
+        &mut publisher,
+        &[first, grew, stopped(1)],
+        1,
+        Phase::Terminated,
     );
-    same(&rt, "seen", seen, due);
-    Ok(())
+    let late = board.look(&mut watcher);
+    board.join(watcher, &mut publisher);
+    same(&rt, "seen", [nothing, early, late], SEEN);
 }
 
-fn kept_looks_between<H: Keeper>(
+fn kept_looks<H: Keeper>(
     board: &Board,
     publisher: &mut Publisher,
     watcher: &mut Watcher,
     kept: &mut H,
-) -> (Progress, Progress)
+) -> [Progress; 3]
     requires publisher { (publisher.old.board ≡ board.now) × (publisher.old.entries ≡ []) × (publisher.old.phase ≡ Phase.Running) }
     requires watcher { watcher.old.board ≡ board.now }
     requires none { H.entries kept.old ≡ [] }
@@ -78,28 +74,54 @@ fn kept_looks_between<H: Keeper>(
     ensures publisher { publisher.new.board ≡ board.now }
     ensures watcher { watcher.new.board ≡ board.now }
 {
+    let nothing = board.look(watcher);
     kept.keep(put(1));
     board.publish_kept(publisher, kept, 0, Phase::Running);
     let early = board.look(watcher);
     kept.keep(Entry::Grew { channel: 0, to: 2 });
     kept.keep(stopped(1));
     board.publish_kept(publisher, kept, 1, Phase::Terminated);
-    (early, board.look(watcher))
+    [nothing, early, board.look(watcher)]
 }
 
 #[test]
-fn a_look_shows_kept_entries(rt: HostRuntime) -> Result<(), Fail> {
-    let (board, mut publisher) = Board::new(rt.alloc())?;
-    let mut watcher = board.split(&mut publisher)?;
-    let mut kept = Packed::with_room(rt.alloc(), 3)?;
-    let seen = kept_looks_between(&board, &mut publisher, &mut watcher, &mut kept);
+fn a_look_shows_kept_entries(rt: HostRuntime) {
+    let (board, mut publisher) = Board::new(rt.alloc()).expect(&rt, "no memory");
+    let mut watcher = board.split(&mut publisher).expect(&rt, "no watcher");
+    let mut kept = Packed::with_room(rt.alloc(), 3).expect(&rt, "no memory");
+    let seen = kept_looks(&board, &mut publisher, &mut watcher, &mut kept);
     board.join(watcher, &mut publisher);
-    let due = (
-        progress(1, 0, Phase::Running),
-        progress(3, 1, Phase::Terminated),
-    );
-    same(&rt, "seen", seen, due);
-    Ok(())
+    same(&rt, "seen", seen, SEEN);
+}
+
+/// A process stops, and the run is over.
+#[test]
+fn a_look_shows_an_end(rt: HostRuntime) {
+    let (board, mut publisher) = Board::new(rt.alloc()).expect(&rt, "no memory");
+    let mut watcher = board.split(&mut publisher).expect(&rt, "no watcher");
+    let before = board.look(&mut watcher);
+    board.publish(&mut publisher, &[stopped(0)], 0, Phase::Terminated);
+    let after = board.look(&mut watcher);
+    board.join(watcher, &mut publisher);
+    let due = [
+        progress(0, 0, Phase::Running),
+        progress(1, 0, Phase::Terminated),
+    ];
+    same(&rt, "seen", [before, after], due);
+    same(&rt, "full", WatchFault::Full.number(), 1);
+}
+
+#[test]
+fn phases_have_numbers(rt: HostRuntime) {
+    let numbers = [
+        Phase::Running.number(),
+        Phase::Terminated.number(),
+        Phase::Deadlock.number(),
+        Phase::Ceiling.number(),
+        Phase::Budget.number(),
+        Phase::Memory.number(),
+    ];
+    same(&rt, "numbers", numbers, [0, 1, 2, 3, 4, 5]);
 }
 
 fn watchers(board: &Board, publisher: &mut Publisher) -> usize

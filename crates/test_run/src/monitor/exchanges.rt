@@ -2,7 +2,7 @@
 ghost use Rattle.std.specs.Prelude.{◌≡◌, length};
 
 use crate::checks::same;
-use crate::monitor::monitors::{ended_alone, seen_by, watcher_of};
+use crate::monitor::monitors::{ended_alone, watcher_of};
 use crate::monitor::scenes::COUNTER_ENDED;
 use kpn_body::Body;
 use kpn_machine::Outcome;
@@ -116,7 +116,7 @@ pub(crate) fn exchanged<B: Body, E: EntryLedger, O: Ledger, R: Wait + Clock + Ab
 ) {
     let mut watcher = watcher_of(rt, &monitor);
     play_rounds(rt, alloc, &monitor, &mut seat);
-    same(rt, "shown", seen_by(&monitor, &mut watcher), SHOWN);
+    same(rt, "shown", monitor.look(&mut watcher), SHOWN);
     let ended = ended_alone(rt, alloc, monitor, seat);
     same(rt, "ended", ended, COUNTER_ENDED);
 }
@@ -145,7 +145,7 @@ pub(crate) fn asked_in_place<B: Body, E: EntryLedger, O: Ledger, R: Wait + Clock
     for (most, went) in due {
         same(rt, "went", monitor.ask_in_place(rt, &mut seat, most), went);
     }
-    same(rt, "shown", seen_by(&monitor, &mut watcher), SHOWN);
+    same(rt, "shown", monitor.look(&mut watcher), SHOWN);
     let ended = ended_alone(rt, alloc, monitor, seat);
     same(rt, "ended", ended, COUNTER_ENDED);
 }

@@ -11,7 +11,7 @@ use kpn_machine::{Machine, Outcome, Stranger};
 use kpn_monitor::{Closed, EntryLedger, Monitor, Opening, Seat, Taken};
 use kpn_net::{End, Kinds, Net};
 use kpn_run::{Open, Worked, work, work_with};
-use kpn_watch::{Progress, Watcher};
+use kpn_watch::Watcher;
 use std::alloc::Global;
 use std::process::Abort;
 use std::sync::Wait;
@@ -78,16 +78,6 @@ pub(crate) fn watcher_of<B: Body, E: EntryLedger, O: Ledger, R: Wait + Abort>(
         panic!(rt; "no watcher");
     };
     watcher
-}
-
-pub(crate) fn seen_by<B: Body, E: EntryLedger, O: Ledger>(
-    monitor: &Monitor<B, E, O>,
-    watcher: &mut Watcher,
-) -> Progress
-    requires { watcher.old.board ≡ E.board }
-    ensures { watcher.new.board ≡ E.board }
-{
-    monitor.look(watcher)
 }
 
 /// The run must not have ended.
@@ -208,13 +198,4 @@ pub(crate) fn ended_of<K: Kinds, E: EntryLedger>(closed: &Closed<K, E>) -> Ended
         entries: closed.history().len(),
         processes: closed.net().processes(),
     }
-}
-
-pub(crate) fn shown_to<K: Kinds, E: EntryLedger>(
-    closed: &mut Closed<K, E>,
-    watcher: Watcher,
-) -> Progress
-    requires { watcher.board ≡ E.board }
-{
-    closed.settle(watcher)
 }

@@ -7,7 +7,7 @@ ghost use Rattle.kpn_monitor.specs.Views.{AreNamesOf};
 
 use crate::checks::same;
 use crate::monitor::monitors::{
-    Ended, close_with, ended_of, locked, opened, seen_by, watcher_of, work_alone,
+    Ended, close_with, ended_of, locked, opened, watcher_of, work_alone,
 };
 use crate::networks::{Parts, parts_or_refused};
 use kpn_body::Body;
@@ -65,26 +65,13 @@ fn machine_again<B: Body, R: Abort>(
 {
     match Machine::open(alloc, net, bodies) {
         Ok(machine) => (machine, Refused::Nothing),
-        Err(refused) => {
-            let machine = open_refused_parts(rt, alloc, refused, processes);
-            (machine, Refused::Machine)
+        Err(OpenRefused { net, bodies, fault }) => {
+            let found = (fault, net.processes(), bodies.len());
+            let due = (OpenFault::Memory, processes, processes);
+            same(rt, "refused", found, due);
+            (opened(rt, alloc, net, bodies), Refused::Machine)
         }
     }
-}
-
-fn open_refused_parts<B: Body, R: Abort>(
-    rt: &R,
-    alloc: Global,
-    refused: OpenRefused<B>,
-    processes: usize,
-) -> Machine<B>
-    ensures { IsFresh result }
-{
-    let OpenRefused { net, bodies, fault } = refused;
-    let found = (fault, net.processes(), bodies.len());
-    let due = (OpenFault::Memory, processes, processes);
-    same(rt, "refused", found, due);
-    opened(rt, alloc, net, bodies)
 }
 
 /// If out of memory, retries with the machine that the error returned.
@@ -97,15 +84,11 @@ fn opening_again<B: Body, R: Abort>(
 {
     match Opening::new(alloc, machine) {
         Ok(opening) => (opening, Refused::Nothing),
-        Err(machine) => (open_refused_machine(rt, alloc, machine), Refused::Opening),
+        Err(machine) => {
+            same(rt, "fresh", machine.is_fresh(), true);
+            (locked(rt, alloc, machine), Refused::Opening)
+        }
     }
-}
-
-fn open_refused_machine<B: Body, R: Abort>(rt: &R, alloc: Global, machine: Machine<B>) -> Opening<B>
-    requires { IsFresh machine }
-{
-    same(rt, "fresh", machine.is_fresh(), true);
-    locked(rt, alloc, machine)
 }
 
 /// The result of a run, and what a watcher sees after it.
@@ -122,7 +105,7 @@ fn work_to_the_end<B: Body, E: EntryLedger, O: Ledger, R: Wait + Abort>(
     let (monitor, seat) = Monitor::<B, E, O>::open(opening);
     let mut watcher = watcher_of(rt, &monitor);
     let seat = work_alone(rt, &monitor, seat);
-    let seen = seen_by(&monitor, &mut watcher);
+    let seen = monitor.look(&mut watcher);
     let seats = Vec::from_array(alloc, [seat])?;
     let closed = close_with(rt, monitor, seats);
     let refused = growth_refused(rt, (ended_of(&closed), seen), due);

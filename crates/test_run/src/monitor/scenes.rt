@@ -6,10 +6,12 @@ use crate::checks::same;
 use crate::monitor::exchanges::{SHOWN, asked_in_place, exchanged};
 use crate::monitor::monitors::{
     Ended, close_alone, close_with, ended_alone, ended_of, list_of, next_task, opening_of,
-    outcome_of, seen_by, shown_to, two_seats, watcher_of, work_alone, work_counted,
+    outcome_of, two_seats, watcher_of, work_alone, work_counted,
 };
+use crate::monitor::staying::{COUNTER_STAYS, READY_COME_FIRST, counter_plays, refused_between};
+use crate::monitor::strangers::strangers;
 use crate::monitor::waking::{ONE_TOKEN, woken};
-use kpn_body::Body;
+use kpn_body::{Body, Finished};
 use kpn_machine::{End, Outcome};
 use kpn_monitor::{CloseFault, Closed, EntryLedger, Monitor, Opening, Seat, Taken, Unclosed};
 use kpn_net::Kinds;
@@ -24,7 +26,7 @@ use std::thread::{Threads, join};
 use test_texts::{COPIED_AND_WOVEN, COUNTER_INTO_SINK};
 
 #[derive(Clone, Copy)]
-enum Scene {
+pub(crate) enum Scene {
     /// A watcher looks a thousand times while two threads work on Parks's case to its end.
     Watched,
     /// One seat commits one answer, the other the seven that are left (the gate is asked seven times).
@@ -44,6 +46,10 @@ enum Scene {
     InPlace,
     /// A waiting thread is woken by one that commits and leaves.
     Woken,
+    /// A hand whose processes can continue plays the rounds of `COUNTER_STAYS`.
+    Stays,
+    /// A hand of one task plays those of `READY_COME_FIRST`.
+    ReadyFirst,
 }
 
 static NOTHING: Progress = Progress {
@@ -106,6 +112,44 @@ fn play_opened<
         Scene::Exchanged => exchanged(rt, alloc, monitor, seat),
         Scene::InPlace => asked_in_place(rt, alloc, monitor, seat),
         Scene::Woken => woken(rt, alloc, monitor, seat),
+        Scene::Stays => {
+            let rounds = COUNTER_STAYS;
+            counter_plays(rt, alloc, monitor, seat, &rounds);
+        }
+        Scene::ReadyFirst => {
+            let rounds = READY_COME_FIRST;
+            counter_plays(rt, alloc, monitor, seat, &rounds);
+        }
+    }
+}
+
+/// A scene of two monitors of one network: `again` is committed at the first, if it is given; if not, a hand of
+/// the second is exchanged there.
+pub(crate) fn two_monitors<B: Body, R: Wait + Abort>(
+    rt: &R,
+    alloc: Global,
+    first: Opening<B>,
+    second: Opening<B>,
+    again: Option<Finished<B>>,
+) {
+    two_opened::<B, Brand, Brand, Brand, Brand, R>(rt, alloc, first, second, again)
+}
+
+fn two_opened<B: Body, E: EntryLedger, O: Ledger, F: EntryLedger, P: Ledger, R: Wait + Abort>(
+    rt: &R,
+    alloc: Global,
+    first: Opening<B>,
+    second: Opening<B>,
+    again: Option<Finished<B>>,
+)
+    requires names { AreNamesOf E.EntryLedger O.Ledger first }
+    requires second_names { AreNamesOf F.EntryLedger P.Ledger second }
+{
+    let asked = Monitor::<B, E, O>::open(first);
+    let other = Monitor::<B, F, P>::open(second);
+    match again {
+        Some(again) => strangers(rt, alloc, asked, other, again),
+        None => refused_between(rt, alloc, asked, other),
     }
 }
 
@@ -118,9 +162,9 @@ fn looks<B: Body, E: EntryLedger, O: Ledger>(
     ensures { result.1.board ≡ E.board }
 {
     let mut rising = true;
-    let mut last = seen_by(monitor, &mut watcher);
+    let mut last = monitor.look(&mut watcher);
     for _ in 0..1000 {
-        let seen = seen_by(monitor, &mut watcher);
+        let seen = monitor.look(&mut watcher);
         rising = rising && last.entries <= seen.entries && last.growths <= seen.growths;
         last = seen;
     }
@@ -145,35 +189,6 @@ fn work_in_two<
     )
 }
 
-fn work_watched<
-    B: Body,
-    E: EntryLedger + Send + Sync,
-    O: Ledger + Send + Sync,
-    R: Threads + Wait + Abort + Sync,
->(
-    rt: &R,
-    monitor: &Monitor<B, E, O>,
-    one: Seat<E, O>,
-    other: Seat<E, O>,
-    watcher: Watcher,
-) -> (Seat<E, O>, Seat<E, O>, Watcher)
-    requires { watcher.board ≡ E.board }
-    ensures { result.2.board ≡ E.board }
-{
-    let (looked, worked) = join(
-        rt,
-        || -> (bool, Watcher)
-            requires { watcher.board ≡ E.board }
-            ensures { result.1.board ≡ E.board }
-        { looks(monitor, watcher) },
-        || work_in_two(rt, monitor, one, other),
-    );
-    let (rising, watcher) = looked;
-    same(rt, "rising", rising, true);
-    let (one, other) = worked;
-    (one, other, watcher)
-}
-
 fn watched<
     B: Body,
     E: EntryLedger + Send + Sync,
@@ -183,46 +198,26 @@ fn watched<
     let (one, other) = two_seats(rt, seat);
     let first = watcher_of(rt, &monitor);
     let mut second = watcher_of(rt, &monitor);
-    same(rt, "seen", seen_by(&monitor, &mut second), NOTHING);
-    let (one, other, mut first) = work_watched(rt, &monitor, one, other, first);
-    same(rt, "seen", seen_by(&monitor, &mut first), WOVEN);
+    same(rt, "seen", monitor.look(&mut second), NOTHING);
+    let ((rising, mut first), (one, other)) = join(
+        rt,
+        || -> (bool, Watcher)
+            requires { first.board ≡ E.board }
+            ensures { result.1.board ≡ E.board }
+        { looks(&monitor, first) },
+        || work_in_two(rt, &monitor, one, other),
+    );
+    same(
+        rt,
+        "seen",
+        (rising, monitor.look(&mut first)),
+        (true, WOVEN),
+    );
     let mut closed = close_with(rt, monitor, list_of(rt, alloc, [one, other]));
     same(rt, "ended", ended_of(&closed), WOVEN_ENDED);
-    same(rt, "shown", shown_to(&mut closed, first), WOVEN);
-    same(rt, "shown", shown_to(&mut closed, second), WOVEN);
+    let shown = [closed.settle(first), closed.settle(second)];
+    same(rt, "shown", shown, [WOVEN; 2]);
     drop(closed);
-}
-
-fn not_closed<B: Body, E: EntryLedger, O: Ledger, R: Abort>(
-    rt: &R,
-    monitor: Monitor<B, E, O>,
-    seats: Vec<Seat<E, O>>,
-) -> Unclosed<B, E, O> {
-    monitor
-        .close(seats)
-        .err()
-        .expect(rt, "closed without a seat")
-}
-
-fn commits_one<B: Body, E: EntryLedger, O: Ledger, R: Wait + Abort>(
-    rt: &R,
-    monitor: &Monitor<B, E, O>,
-    seat: &mut Seat<E, O>,
-) {
-    let task = next_task(rt, monitor, seat);
-    let outcome = outcome_of(rt, monitor, task.call(), seat);
-    same(rt, "outcome", outcome, Outcome::Done(1));
-}
-
-fn end_met<B: Body, E: EntryLedger, O: Ledger, R: Wait + Abort>(
-    rt: &R,
-    monitor: &Monitor<B, E, O>,
-    seat: &mut Seat<E, O>,
-) -> End {
-    let Taken::Over(end) = monitor.take(rt, seat) else {
-        panic!(rt; "not over");
-    };
-    end
 }
 
 fn missing_seat<B: Body, E: EntryLedger, O: Ledger, R: Wait + Abort>(
@@ -233,19 +228,19 @@ fn missing_seat<B: Body, E: EntryLedger, O: Ledger, R: Wait + Abort>(
 ) {
     let (mut other, seat) = two_seats(rt, seat);
     let mut watcher = watcher_of(rt, &monitor);
-    commits_one(rt, &monitor, &mut other);
-    same(rt, "one", seen_by(&monitor, &mut watcher), ONE);
+    let task = next_task(rt, &monitor, &mut other);
+    let outcome = outcome_of(rt, &monitor, task.call(), &mut other);
+    let one = (outcome, monitor.look(&mut watcher));
+    same(rt, "one", one, (Outcome::Done(1), ONE));
     let mut seat = work_counted(rt, &monitor, seat, 7);
-    same(
-        rt,
-        "over",
-        end_met(rt, &monitor, &mut seat),
-        End::Terminated,
-    );
-    same(rt, "shown", seen_by(&monitor, &mut watcher), SHOWN);
+    let Taken::Over(end) = monitor.take(rt, &mut seat) else {
+        panic!(rt; "not over");
+    };
+    let over = (end, monitor.look(&mut watcher));
+    same(rt, "over", over, (End::Terminated, SHOWN));
     let mut closed = close_at_last(rt, alloc, monitor, seat, other);
-    same(rt, "ended", ended_of(&closed), COUNTER_ENDED);
-    same(rt, "settled", shown_to(&mut closed, watcher), SHOWN);
+    let settled = (ended_of(&closed), closed.settle(watcher));
+    same(rt, "settled", settled, (COUNTER_ENDED, SHOWN));
     drop(closed);
 }
 
@@ -257,9 +252,16 @@ fn close_at_last<B: Body, E: EntryLedger, O: Ledger, R: Abort>(
     seat: Seat<E, O>,
     other: Seat<E, O>,
 ) -> Closed<B::Kinds, E> {
-    let unclosed = not_closed(rt, monitor, list_of(rt, alloc, [other]));
-    same(rt, "fault", unclosed.fault(), CloseFault::SeatsMissing);
-    same(rt, "number", unclosed.fault().number(), 1);
+    let Err(unclosed) = monitor.close(list_of(rt, alloc, [other])) else {
+        panic!(rt; "closed without a seat");
+    };
+    let fault = unclosed.fault();
+    same(
+        rt,
+        "fault",
+        (fault, fault.number()),
+        (CloseFault::SeatsMissing, 1),
+    );
     let Unclosed { monitor, mut seats } = unclosed;
     same(rt, "pushed", seats.push(seat).is_ok(), true);
     close_with(rt, monitor, seats)
@@ -297,24 +299,11 @@ fn one_task<B: Body, E: EntryLedger, O: Ledger, R: Wait + Abort>(
     mut seat: Seat<E, O>,
     dropped: bool,
 ) {
-    answer_once(rt, &monitor, &mut seat, dropped);
-    let ended = ended_alone(rt, alloc, monitor, seat);
-    has_no_end(rt, ended, dropped);
-}
-
-fn answer_once<B: Body, E: EntryLedger, O: Ledger, R: Wait + Abort>(
-    rt: &R,
-    monitor: &Monitor<B, E, O>,
-    seat: &mut Seat<E, O>,
-    dropped: bool,
-) {
-    let task = next_task(rt, monitor, seat);
+    let task = next_task(rt, &monitor, &mut seat);
     if !dropped {
-        outcome_of(rt, monitor, task.call(), seat);
+        outcome_of(rt, &monitor, task.call(), &mut seat);
     }
-}
-
-fn has_no_end<R: Abort>(rt: &R, ended: Ended, dropped: bool) {
+    let ended = ended_alone(rt, alloc, monitor, seat);
     let receipts = if dropped { 0 } else { ended.receipts };
     let found = (ended.end, ended.entries as u64, ended.receipts);
     same(rt, "ended", found, (None, receipts, receipts));
@@ -353,7 +342,7 @@ fn all_look<B: Body, E: EntryLedger, O: Ledger, R: Abort>(
     ensures { All (λ w. w.board ≡ E.board) looked.new.items }
 {
     while let Some(mut watcher) = watchers.pop() {
-        same(rt, "looked", seen_by(monitor, &mut watcher), NOTHING);
+        same(rt, "looked", monitor.look(&mut watcher), NOTHING);
         keep(rt, looked, watcher);
     }
 }
@@ -366,24 +355,8 @@ fn all_settle<K: Kinds, E: EntryLedger, R: Abort>(
     requires { All (λ w. w.board ≡ E.board) watchers.items }
 {
     while let Some(watcher) = watchers.pop() {
-        same(rt, "settled", shown_to(closed, watcher), WOVEN);
+        same(rt, "settled", closed.settle(watcher), WOVEN);
     }
-}
-
-fn looking_watchers<B: Body, E: EntryLedger, O: Ledger, R: Wait + Abort>(
-    rt: &R,
-    alloc: Global,
-    monitor: &Monitor<B, E, O>,
-) -> Vec<Watcher>
-    ensures { All (λ w. w.board ≡ E.board) result.items }
-{
-    let watchers = watch_all(rt, alloc, monitor);
-    let full = monitor.watch(rt).is_err();
-    same(rt, "watchers", (full, watchers.len()), (true, 64));
-    let mut looked = Vec::new(alloc);
-    all_look(rt, monitor, watchers, &mut looked);
-    same(rt, "looked", looked.len(), 64);
-    looked
 }
 
 fn most_watchers<B: Body, E: EntryLedger, O: Ledger, R: Wait + Abort>(
@@ -392,10 +365,15 @@ fn most_watchers<B: Body, E: EntryLedger, O: Ledger, R: Wait + Abort>(
     monitor: Monitor<B, E, O>,
     seat: Seat<E, O>,
 ) {
-    let watchers = looking_watchers(rt, alloc, &monitor);
+    let watchers = watch_all(rt, alloc, &monitor);
+    let full = monitor.watch(rt).is_err();
+    same(rt, "watchers", (full, watchers.len()), (true, 64));
+    let mut looked = Vec::new(alloc);
+    all_look(rt, &monitor, watchers, &mut looked);
+    same(rt, "looked", looked.len(), 64);
     let seat = work_alone(rt, &monitor, seat);
     let mut closed = close_alone(rt, alloc, monitor, seat);
-    all_settle(rt, &mut closed, watchers);
+    all_settle(rt, &mut closed, looked);
     drop(closed);
 }
 
@@ -412,14 +390,13 @@ fn scenes_on_monitors(rt: HostRuntime) {
         (COUNTER_INTO_SINK, Scene::Exchanged),
         (COUNTER_INTO_SINK, Scene::InPlace),
     ] {
-        shows_scene(&rt, rt.alloc(), "a scene", text, scene);
+        shows_scene(&rt, rt.alloc(), text, scene);
     }
 }
 
-fn shows_scene<R: Threads + Wait + Clock + Abort + Sync>(
+pub(crate) fn shows_scene<R: Threads + Wait + Clock + Abort + Sync>(
     rt: &R,
     alloc: Global,
-    what: &str,
     text: &str,
     scene: Scene,
 ) {
@@ -429,6 +406,5 @@ fn shows_scene<R: Threads + Wait + Clock + Abort + Sync>(
 
 #[test]
 fn a_waiter_is_woken_by_one_that_leaves(rt: HostRuntime) {
-    let what = "a thread that waits in take";
-    shows_scene(&rt, rt.alloc(), what, ONE_TOKEN, Scene::Woken);
+    shows_scene(&rt, rt.alloc(), ONE_TOKEN, Scene::Woken);
 }

@@ -1,17 +1,15 @@
 //! A process that can continue stays in its hand.
 ghost use Rattle.std.specs.Prelude.{◌≡◌, length};
-ghost use Rattle.kpn_monitor.specs.Views.{AreNamesOf};
 
 use crate::checks::same;
 use crate::monitor::exchanges::call_all;
 use crate::monitor::monitors::{Ended, ended_alone, next_task, opening_of, outcome_of, work_alone};
-use crate::monitor::scenes::COUNTER_ENDED;
+use crate::monitor::scenes::{COUNTER_ENDED, Scene, shows_scene, two_monitors};
 use kpn_body::Body;
 use kpn_machine::{Outcome, Stranger};
-use kpn_monitor::{EntryLedger, Hand, Monitor, Next, Opening, Seat};
+use kpn_monitor::{EntryLedger, Hand, Monitor, Next, Seat};
 use kpn_net::End;
 use std::alloc::Global;
-use std::marker::Brand;
 use std::process::Abort;
 use std::sync::Wait;
 use std::sync::ledger::Ledger;
@@ -20,7 +18,7 @@ use test_texts::{COUNTER_INTO_SINK, READY_CHAIN};
 /// An exchange by a hand of at most three tasks: the most it asks for, the processes called before it, their
 /// outcomes, and what the hand got.
 #[derive(Clone, Copy)]
-struct Round {
+pub(crate) struct Round {
     most: usize,
     called: [Option<usize>; 3],
     outcomes: [Option<Outcome>; 3],
@@ -32,7 +30,7 @@ struct Round {
 /// At first the hand has the counter alone, and the sink is ready. The counter writes, stays, and is called
 /// again before the sink, which has waited longer. Its second write parks it, and it leaves its place to the
 /// sink, whose read lets it write. Now the sink comes first, and both can always continue until each stops.
-static COUNTER_STAYS: [Round; 6] = [
+pub(crate) static COUNTER_STAYS: [Round; 6] = [
     Round {
         most: 1,
         called: [None, None, None],
@@ -72,7 +70,7 @@ static COUNTER_STAYS: [Round; 6] = [
 ];
 
 /// A hand of one task never has the counter twice in turn: the ready sink comes first.
-static READY_COME_FIRST: [Round; 4] = [
+pub(crate) static READY_COME_FIRST: [Round; 4] = [
     Round {
         most: 1,
         called: [None, None, None],
@@ -150,16 +148,6 @@ static CHAIN_ENDED: Ended = Ended {
     processes: 5,
 };
 
-fn call_three<B: Body, R: Abort>(rt: &R, hand: &mut Hand<B>) -> [Option<usize>; 3]
-    ensures { hand.new.called ≡ length hand.new.tasks }
-{
-    let called = [hand.call(), hand.call(), hand.call()];
-    let None = hand.call() else {
-        panic!(rt; "four tasks");
-    };
-    called
-}
-
 fn outcomes_of<B: Body>(hand: &Hand<B>) -> [Option<Outcome>; 3] {
     let outcomes = hand.outcomes();
     [
@@ -176,7 +164,10 @@ fn play_round<B: Body, E: EntryLedger, O: Ledger, R: Wait + Abort>(
     seat: &mut Seat<E, O>,
     due: &Round,
 ) {
-    let called = call_three(rt, hand);
+    let called = [hand.call(), hand.call(), hand.call()];
+    let None = hand.call() else {
+        panic!(rt; "four tasks");
+    };
     let Ok(next) = monitor.exchange(rt, hand, seat, due.most) else {
         panic!(rt; "a stranger");
     };
@@ -209,41 +200,18 @@ fn play_alone<B: Body, E: EntryLedger, O: Ledger, R: Wait + Abort>(
     drop(hand);
 }
 
-fn counter_plays<B: Body, R: Wait + Abort>(
+/// Plays rounds with one hand, then works to the end of a counter and its sink.
+pub(crate) fn counter_plays<B: Body, E: EntryLedger, O: Ledger, R: Wait + Abort>(
     rt: &R,
     alloc: Global,
-    opening: Opening<B>,
+    monitor: Monitor<B, E, O>,
+    mut seat: Seat<E, O>,
     rounds: &[Round],
 ) {
-    counter_opened::<B, Brand, Brand, R>(rt, alloc, opening, rounds)
-}
-
-fn counter_opened<B: Body, E: EntryLedger, O: Ledger, R: Wait + Abort>(
-    rt: &R,
-    alloc: Global,
-    opening: Opening<B>,
-    rounds: &[Round],
-)
-    requires names { AreNamesOf E.EntryLedger O.Ledger opening }
-{
-    let (monitor, mut seat) = Monitor::<B, E, O>::open(opening);
     play_alone(rt, alloc, &monitor, &mut seat, rounds);
     let seat = work_alone(rt, &monitor, seat);
-    same(
-        rt,
-        "ended",
-        ended_alone(rt, alloc, monitor, seat),
-        COUNTER_ENDED,
-    );
-}
-
-fn two_monitors<B: Body, R: Wait + Abort>(
-    rt: &R,
-    alloc: Global,
-    first: Opening<B>,
-    second: Opening<B>,
-) {
-    refused_between::<B, Brand, Brand, Brand, Brand, R>(rt, alloc, first, second)
+    let ended = ended_alone(rt, alloc, monitor, seat);
+    same(rt, "ended", ended, COUNTER_ENDED);
 }
 
 fn full_hand<B: Body, E: EntryLedger, O: Ledger, R: Wait + Abort>(
@@ -278,56 +246,9 @@ fn send_out<B: Body, E: EntryLedger, O: Ledger, R: Wait + Abort>(
     }
 }
 
-/// Exchanges a hand whose third answer wasn't asked for: the two before it are committed.
+/// Exchanges a hand whose third answer wasn't asked for: the two before it are committed, go out again and are
+/// ready after the rejection, so that a second hand gets them.
 fn refuse_third<B: Body, E: EntryLedger, O: Ledger, R: Wait + Abort>(
-    rt: &R,
-    monitor: &Monitor<B, E, O>,
-    hand: &mut Hand<B>,
-    seat: &mut Seat<E, O>,
-)
-    requires { hand.old.called ≡ length hand.old.tasks }
-    ensures { hand.new.called ≡ length hand.new.tasks }
-{
-    let Err(Stranger { finished }) = monitor.exchange(rt, hand, seat, 16) else {
-        panic!(rt; "not a stranger");
-    };
-    same(rt, "refused", finished.process(), 2);
-    let done = Some(Outcome::Done(1));
-    same(rt, "outcomes", outcomes_of(hand), [done, done, None]);
-}
-
-/// Fills a hand at one monitor and exchanges it at another of the same network, where all but the third
-/// process are out too. The first two go out again and are ready after the rejection: a second hand gets
-/// them.
-fn refused_between<B: Body, E: EntryLedger, O: Ledger, F: EntryLedger, P: Ledger, R: Wait + Abort>(
-    rt: &R,
-    alloc: Global,
-    first: Opening<B>,
-    second: Opening<B>,
-)
-    requires names { AreNamesOf E.EntryLedger O.Ledger first }
-    requires second_names { AreNamesOf F.EntryLedger P.Ledger second }
-{
-    let (monitor, mut seat) = Monitor::<B, E, O>::open(first);
-    let (other, mut other_seat) = Monitor::<B, F, P>::open(second);
-    let hand = full_hand(rt, alloc, &other, &mut other_seat);
-    same(
-        rt,
-        "other",
-        ended_alone(rt, alloc, other, other_seat),
-        NOTHING_DONE,
-    );
-    refuse_and_go_on(rt, alloc, &monitor, &mut seat, hand);
-    let seat = work_alone(rt, &monitor, seat);
-    same(
-        rt,
-        "ended",
-        ended_alone(rt, alloc, monitor, seat),
-        CHAIN_ENDED,
-    );
-}
-
-fn refuse_and_go_on<B: Body, E: EntryLedger, O: Ledger, R: Wait + Abort>(
     rt: &R,
     alloc: Global,
     monitor: &Monitor<B, E, O>,
@@ -336,28 +257,53 @@ fn refuse_and_go_on<B: Body, E: EntryLedger, O: Ledger, R: Wait + Abort>(
 )
     requires { hand.called ≡ length hand.tasks }
 {
-    let (given_back, left_in_hand) = (GIVEN_BACK, LEFT_IN_HAND);
     send_out(rt, monitor, seat);
-    refuse_third(rt, monitor, &mut hand, seat);
+    let Err(Stranger { finished }) = monitor.exchange(rt, &mut hand, seat, 16) else {
+        panic!(rt; "not a stranger");
+    };
+    same(rt, "refused", finished.process(), 2);
+    let done = Some(Outcome::Done(1));
+    same(rt, "outcomes", outcomes_of(&hand), [done, done, None]);
+    let (given_back, left_in_hand) = (GIVEN_BACK, LEFT_IN_HAND);
     play_alone(rt, alloc, monitor, seat, &given_back);
     play_rounds(rt, monitor, &mut hand, seat, &left_in_hand);
     drop(hand);
 }
 
+/// Fills a hand at one monitor and exchanges it at another of the same network, where all but the third
+/// process are out too.
+pub(crate) fn refused_between<
+    B: Body,
+    E: EntryLedger,
+    O: Ledger,
+    F: EntryLedger,
+    P: Ledger,
+    R: Wait + Abort,
+>(
+    rt: &R,
+    alloc: Global,
+    asked: (Monitor<B, E, O>, Seat<E, O>),
+    other: (Monitor<B, F, P>, Seat<F, P>),
+) {
+    let (other, mut other_seat) = other;
+    let hand = full_hand(rt, alloc, &other, &mut other_seat);
+    let ended = ended_alone(rt, alloc, other, other_seat);
+    same(rt, "other", ended, NOTHING_DONE);
+    let (monitor, mut seat) = asked;
+    refuse_third(rt, alloc, &monitor, &mut seat, hand);
+    let seat = work_alone(rt, &monitor, seat);
+    let ended = ended_alone(rt, alloc, monitor, seat);
+    same(rt, "ended", ended, CHAIN_ENDED);
+}
+
 #[test]
 fn a_process_that_can_go_on_stays(rt: HostRuntime) {
-    let alloc = rt.alloc();
-    let opening = opening_of(&rt, alloc, COUNTER_INTO_SINK);
-    let rounds = COUNTER_STAYS;
-    counter_plays(&rt, alloc, opening, &rounds);
+    shows_scene(&rt, rt.alloc(), COUNTER_INTO_SINK, Scene::Stays);
 }
 
 #[test]
 fn ready_ones_come_before_those_that_could_stay(rt: HostRuntime) {
-    let alloc = rt.alloc();
-    let opening = opening_of(&rt, alloc, COUNTER_INTO_SINK);
-    let rounds = READY_COME_FIRST;
-    counter_plays(&rt, alloc, opening, &rounds);
+    shows_scene(&rt, rt.alloc(), COUNTER_INTO_SINK, Scene::ReadyFirst);
 }
 
 #[test]
@@ -365,5 +311,5 @@ fn a_refused_answer_leaves_those_before_it_ready(rt: HostRuntime) {
     let alloc = rt.alloc();
     let first = opening_of(&rt, alloc, READY_CHAIN);
     let second = opening_of(&rt, alloc, READY_CHAIN);
-    two_monitors(&rt, alloc, first, second);
+    two_monitors(&rt, alloc, first, second, None);
 }

@@ -3,7 +3,7 @@ use Rattle.std.proofs.Common.{◌++◌, ◌∷◌, [], ◌∙◌, ap, sym}
 use Rattle.kpn_model.specs.declared.history.Entry.TheVariants.{Grew}
 use Rattle.kpn_watch.proofs.Fronts.{prefix_trans}
 use Rattle.kpn_watch.specs.Boards.{Published}
-use Rattle.test_run.proofs.monitor.boards.kept_looks_between.Goals as goal
+use Rattle.test_run.proofs.monitor.boards.kept_looks.Goals as goal
 
 pub publish_kept-requires-2-clause-goes_on : goal.publish_kept-requires-2-clause-goes_on
 publish_kept-requires-2-clause-goes_on g c =

@@ -1,0 +1,10 @@
+-- What is published first goes on from nothing.
+use Rattle.std.proofs.Common.{◌≡◌, [], ◌∷◌, rules}
+use Rattle.kpn_watch.proofs.Fronts.{prefix_of_front}
+use Rattle.test_run.proofs.monitor.boards.a_look_shows_a_growth.Goals as goal
+
+pub publish-requires-clause-goes_on : goal.publish-requires-clause-goes_on
+publish-requires-clause-goes_on g c = let none : c.split.new.publisher.entries ≡ [] = search rules in prefix_of_front _ [] _ none
+
+pub publish-requires-2-clause-goes_on : goal.publish-requires-2-clause-goes_on
+publish-requires-2-clause-goes_on g c = let one : c.publish.new.publisher.entries ≡ c.put-first.result ∷ [] = search rules in prefix_of_front _ (_ ∷ []) _ one
