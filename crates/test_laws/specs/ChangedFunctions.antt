@@ -14,16 +14,18 @@ use Rattle.kpn_streams.specs.Fed.{Writes}
 use Rattle.kpn_streams.specs.Functions.{words, flags, woven, merged, flagged}
 use Rattle.kpn_streams.specs.Joined.{TakesTurns}
 use Rattle.kpn_streams.specs.Rounds.{side_by_side, columns}
-use Rattle.test_laws.specs.WorkedFunctions.{Gives}
+use Rattle.kpn_streams.specs.Kinds.{KindWrites}
 
 -- count: the numbers up to n, not n numbers
 abbrev pub CountsUpTo : Type 0
 CountsUpTo =
     (from n : ℕ) (others : List ℕ)
-    → Gives Count (from ∷ n ∷ others) [] (words (range_with_len from (n + 1 - from)) ∷ [])
+    → KindWrites Count (from ∷ n ∷ others) [] (words (range_with_len from (n + 1 - from)) ∷ [])
 
 abbrev pub TakesOneMore : Type 0
-TakesOneMore = (n : ℕ) (others xs : List ℕ) → Gives Take (n ∷ others) (words xs ∷ []) (words (take (n + 1) xs) ∷ [])
+TakesOneMore =
+    (n : ℕ) (others xs : List ℕ)
+    → KindWrites Take (n ∷ others) (words xs ∷ []) (words (take (n + 1) xs) ∷ [])
 
 -- copy: to its outputs in turn, not to both
 abbrev pub every_other : List ℕ → List ℕ
@@ -34,21 +36,21 @@ every_other (x ∷ y ∷ xs) = x ∷ every_other xs
 abbrev pub CopiesInTurn : Type 0
 CopiesInTurn =
     (others xs : List ℕ)
-    → Gives Copy others (words xs ∷ []) (words (every_other xs) ∷ words (every_other (drop 1 xs)) ∷ [])
+    → KindWrites Copy others (words xs ∷ []) (words (every_other xs) ∷ words (every_other (drop 1 xs)) ∷ [])
 
 abbrev pub ForgetsItsWord : Type 0
-ForgetsItsWord = (v : ℕ) (others xs : List ℕ) → Gives Prefix (v ∷ others) (words xs ∷ []) (words xs ∷ [])
+ForgetsItsWord = (v : ℕ) (others xs : List ℕ) → KindWrites Prefix (v ∷ others) (words xs ∷ []) (words xs ∷ [])
 
 abbrev pub SumsDoNotWrap : Type 0
 SumsDoNotWrap =
     (others xs ys : List ℕ)
-    → Gives Add others (words xs ∷ words ys ∷ []) (words (map (λ p. p.0 + p.1) (zip xs ys)) ∷ [])
+    → KindWrites Add others (words xs ∷ words ys ∷ []) (words (map (λ p. p.0 + p.1) (zip xs ys)) ∷ [])
 
 -- weave: one turn of the first stream, then the second for ever
 abbrev pub StopsTakingTurns : Type 0
 StopsTakingTurns =
     (a b : ℕ) (others xs ys : List ℕ)
-    → Gives Weave (a ∷ b ∷ others) (words xs ∷ words ys ∷ []) (words (take a xs ++ ys) ∷ [])
+    → KindWrites Weave (a ∷ b ∷ others) (words xs ∷ words ys ∷ []) (words (take a xs ++ ys) ∷ [])
 
 -- merge: both of two equal heads
 abbrev pub both_kept_with : ℕ → (List ℕ → List ℕ) → List ℕ → List ℕ
@@ -60,7 +62,9 @@ both_kept [] ys = []
 both_kept (x ∷ xs) ys = both_kept_with x (both_kept xs) ys
 
 abbrev pub MergeKeepsBoth : Type 0
-MergeKeepsBoth = (others xs ys : List ℕ) → Gives Merge others (words xs ∷ words ys ∷ []) (words (both_kept xs ys) ∷ [])
+MergeKeepsBoth =
+    (others xs ys : List ℕ)
+    → KindWrites Merge others (words xs ∷ words ys ∷ []) (words (both_kept xs ys) ∷ [])
 
 -- merge: the rest of one stream where the other has ended, instead of waiting
 abbrev pub drained_with : ℕ → List ℕ → (List ℕ → List ℕ) → List ℕ → List ℕ
@@ -73,17 +77,17 @@ drained [] ys = ys
 drained (x ∷ xs) ys = drained_with x xs (drained xs) ys
 
 abbrev pub MergeDrains : Type 0
-MergeDrains = (others xs ys : List ℕ) → Gives Merge others (words xs ∷ words ys ∷ []) (words (drained xs ys) ∷ [])
+MergeDrains = (others xs ys : List ℕ) → KindWrites Merge others (words xs ∷ words ys ∷ []) (words (drained xs ys) ∷ [])
 
 abbrev pub DividesOtherWay : Type 0
 DividesOtherWay =
     (m : ℕ) (others xs : List ℕ)
-    → Gives Divides (m ∷ others) (words xs ∷ []) (flags (map (λ x. m % x == 0) xs) ∷ [])
+    → KindWrites Divides (m ∷ others) (words xs ∷ []) (flags (map (λ x. m % x == 0) xs) ∷ [])
 
 abbrev pub SwitchesOtherWay : Type 0
 SwitchesOtherWay =
     (others xs : List ℕ) (fs : List Bool)
-    → Gives Switch others (words xs ∷ flags fs ∷ []) (words (flagged fs xs) ∷ words (flagged (map not fs) xs) ∷ [])
+    → KindWrites Switch others (words xs ∷ flags fs ∷ []) (words (flagged fs xs) ∷ words (flagged (map not fs) xs) ∷ [])
 
 -- select: takes a word of each stream for each flag, and writes one
 abbrev pub picked : List Bool → List ℕ → List ℕ → List ℕ
@@ -93,7 +97,7 @@ picked fs xs ys = []
 abbrev pub SelectReadsBoth : Type 0
 SelectReadsBoth =
     (others xs ys : List ℕ) (fs : List Bool)
-    → Gives Select others (words xs ∷ words ys ∷ flags fs ∷ []) (words (picked fs xs ys) ∷ [])
+    → KindWrites Select others (words xs ∷ words ys ∷ flags fs ∷ []) (words (picked fs xs ys) ∷ [])
 
 -- filters: each word with the local state of the start
 abbrev pub FiltersKeepNothing : Type 0
