@@ -69,15 +69,14 @@ fn compare_counter<R: Abort>(rt: &R, alloc: Global, kept: &Packed) {
     same(rt, "sink", sunk.as_slice(), &SINKS);
 }
 
-/// A run whose entries are kept by `H`.
-pub(crate) fn run_kept<H: Keeper + Send, R: Wait + Clock + Threads + Sync + Abort>(
+fn run_packed<R: Wait + Clock + Threads + Sync + Abort>(
     rt: &R,
     alloc: Global,
     text: &str,
     workers: usize,
-) -> Finish<Standard, H> {
+) -> Finish<Standard, Packed> {
     let Parts { net, bodies } = parts_of(rt, alloc, text);
-    let ran = run_with_keeper::<CardBody<Standard>, H, R, Open>(
+    let ran = run_with_keeper::<CardBody<Standard>, Packed, R, Open>(
         rt, alloc, net, bodies, workers, &Open,
     );
     let Ok(finish) = ran else {
@@ -89,7 +88,7 @@ pub(crate) fn run_kept<H: Keeper + Send, R: Wait + Clock + Threads + Sync + Abor
 #[test]
 fn packed_entries_of_workers_are_recalled(rt: HostRuntime) {
     for workers in [1, 2, 16] {
-        let finish = run_kept::<Packed, _>(&rt, rt.alloc(), COUNTER, workers);
+        let finish = run_packed(&rt, rt.alloc(), COUNTER, workers);
         same(&rt, "receipts", finish.receipts(), 8);
         compare_counter(&rt, rt.alloc(), finish.chronicle().keeper());
         drop(finish);

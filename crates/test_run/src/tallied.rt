@@ -1,14 +1,13 @@
 //! Reports and streams of entries kept in 16 bytes each, counted or not, and of runs by several workers.
 use crate::checks::same;
 use crate::networks::{Parts, StandardParts, parts_of};
-use crate::packed::run_kept;
 use kpn_body::{Body, Standard};
 use kpn_compute::CardBody;
 use kpn_machine::{Chronicle, Machine};
 use kpn_net::Net;
 use kpn_net::Token::Word;
 use kpn_report::{Entries, Tallied, places_of, stream_of_entries, text_of_entries};
-use kpn_run::{Open, run};
+use kpn_run::{Open, run, run_with_keeper};
 use kpn_state::{Keeper, Packed};
 use std::alloc::{AllocError, Global};
 use std::process::Abort;
@@ -75,6 +74,10 @@ fn shows<R: Abort>(rt: &R, alloc: Global, due: &Reported) {
 #[test]
 fn counted_entries_have_their_report(rt: HostRuntime) {
     shows(&rt, rt.alloc(), &COUNTER_REPORTED);
+}
+
+#[test]
+fn counted_entries_with_a_growth_have_their_report(rt: HostRuntime) {
     shows(&rt, rt.alloc(), &WOVEN_REPORTED);
 }
 
@@ -98,16 +101,43 @@ fn packed_entries_are_counted(rt: HostRuntime) {
     same(&rt, "entries", entries, 8);
 }
 
+fn say_told(
+    alloc: Global,
+    chronicle: &Chronicle<Standard>,
+    channel: usize,
+    sink: &mut String,
+) -> Result<(), AllocError> {
+    let Some(end) = chronicle.end() else {
+        return Ok(());
+    };
+    let net = chronicle.net();
+    let places = places_of(alloc, net, chronicle.standings())?;
+    let entries = chronicle.keeper();
+    let text = text_of_entries(alloc, net, entries, places.as_slice(), end, Some(channel))?;
+    sink.push_str(text.as_str())
+}
+
+fn tell_by_two<R: Wait + Clock + Threads + Sync>(
+    rt: &R,
+    alloc: Global,
+    parts: StandardParts,
+    channel: usize,
+    sink: &mut String,
+) -> Result<(), AllocError> {
+    let Parts { net, bodies } = parts;
+    match run(rt, alloc, net, bodies, 2, &Open) {
+        Ok(finish) => say_told(alloc, finish.chronicle(), channel, sink),
+        Err(_) => Err(AllocError),
+    }
+}
+
 #[test]
 fn entries_of_two_workers_have_their_report(rt: HostRuntime) {
     let alloc = rt.alloc();
-    let Parts { net, bodies } = parts_of(&rt, alloc, COPIED_AND_WOVEN);
-    let Ok(finish) = run(&rt, alloc, net, bodies, 2, &Open) else {
-        panic!(&rt; "no run");
-    };
-    let told = text_of(alloc, finish.chronicle(), 3).expect(&rt, "no memory");
-    same(&rt, "text", told.as_deref(), Some(reports::WOVEN));
-    drop(finish);
+    let parts = parts_of(&rt, alloc, COPIED_AND_WOVEN);
+    let mut sink = String::new(alloc);
+    tell_by_two(&rt, alloc, parts, 3, &mut sink).expect(&rt, "no memory");
+    same(&rt, "text", sink.as_str(), reports::WOVEN);
 }
 
 fn shows_by<H: Keeper + Entries + Send, R: Wait + Clock + Threads + Sync + Abort>(
@@ -116,7 +146,13 @@ fn shows_by<H: Keeper + Entries + Send, R: Wait + Clock + Threads + Sync + Abort
     workers: usize,
     due: &Reported,
 ) {
-    let finish = run_kept::<H, R>(rt, alloc, due.network, workers);
+    let Parts { net, bodies } = parts_of(rt, alloc, due.network);
+    let ran = run_with_keeper::<CardBody<Standard>, H, R, Open>(
+        rt, alloc, net, bodies, workers, &Open,
+    );
+    let Ok(finish) = ran else {
+        panic!(rt; "no run");
+    };
     let told = text_of(alloc, finish.chronicle(), due.channel).expect(rt, "no memory");
     same(rt, "text", told.expect(rt, "no end").as_str(), due.report);
     drop(finish);
@@ -141,7 +177,13 @@ fn packed_entries_of_workers_have_their_report(rt: HostRuntime) {
 #[test]
 fn packed_entries_have_their_streams(rt: HostRuntime) {
     let alloc = rt.alloc();
-    let finish = run_kept::<Packed, _>(&rt, alloc, COUNTER, 2);
+    let Parts { net, bodies } = parts_of(&rt, alloc, COUNTER);
+    let ran = run_with_keeper::<CardBody<Standard>, Packed, HostRuntime, Open>(
+        &rt, alloc, net, bodies, 2, &Open,
+    );
+    let Ok(finish) = ran else {
+        panic!(&rt; "no run");
+    };
     let chronicle = finish.chronicle();
     let tokens = stream_of_entries(alloc, chronicle.net(), chronicle.keeper(), 0);
     let tokens = tokens.expect(&rt, "no memory");

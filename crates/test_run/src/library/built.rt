@@ -117,17 +117,13 @@ fn add_counter<R: Abort>(rt: &R, made: &mut Builder) {
 }
 
 fn compare_network<R: Abort>(rt: &R, net: &Net<Standard>) {
-    let found = (net.processes(), net.budget(), net.ceiling());
-    same(
-        rt,
-        "processes, budget, ceiling",
-        found,
-        (2, 10_000, 1_000_000),
-    );
+    same(rt, "processes", net.processes(), 2);
+    same(rt, "budget", net.budget(), 10_000);
+    same(rt, "ceiling", net.ceiling(), 1_000_000);
     same(rt, "channel", net.find_channel("c0"), Some(0));
     if net.channels() == 1 {
-        let found = (net.capacity(0), net.sort(0));
-        same(rt, "capacity, sort", found, (9, Sort::Words));
+        same(rt, "capacity", net.capacity(0), 9);
+        same(rt, "sort", net.sort(0), Sort::Words);
     }
 }
 

@@ -55,13 +55,9 @@ fn shows_crew<R: Threads + Wait + Clock + Sync + Abort>(rt: &R, alloc: Global, s
         panic!(rt; "no run");
     };
     let met = crew.met.load(Ordering::SeqCst);
-    let due = (u64::from(seats), Some(End::Terminated), 8);
-    same(
-        rt,
-        "met, end, receipts",
-        (met, run.end(), run.receipts()),
-        due,
-    );
+    same(rt, "met", met, u64::from(seats));
+    same(rt, "end", run.end(), Some(End::Terminated));
+    same(rt, "receipts", run.receipts(), 8);
     tells_counter(rt, alloc, &run);
     drop(run);
 }
@@ -106,8 +102,8 @@ fn shows_leaving<R: Threads + Wait + Clock + Sync + Abort>(rt: &R, alloc: Global
     let Ok(run) = ran else {
         panic!(rt; "no run");
     };
-    let found = (run.end(), run.history().len());
-    same(rt, "end, entries", found, (None, usize::from(seats)));
+    same(rt, "end", run.end(), None);
+    same(rt, "entries", run.history().len(), usize::from(seats));
     drop(run);
 }
 
@@ -121,12 +117,8 @@ fn a_crew_without_bodies_is_refused(rt: HostRuntime) {
     let Err(OpenRefused { net, fault, .. }) = ran else {
         panic!(rt; "not refused");
     };
-    let found = (fault, net.processes(), crew.met.load(Ordering::SeqCst));
-    same(
-        &rt,
-        "fault, processes, met",
-        found,
-        (OpenFault::Bodies, 2, 0),
-    );
+    same(&rt, "fault", fault, OpenFault::Bodies);
+    same(&rt, "processes", net.processes(), 2);
+    same(&rt, "met", crew.met.load(Ordering::SeqCst), 0);
     drop(net);
 }
