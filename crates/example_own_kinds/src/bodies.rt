@@ -1,12 +1,11 @@
 //! Bodies for a network of standard kinds.
-ghost use Rattle.std.specs.Prelude.{◌≡◌, ◌<◌, IsSome, IfOk, Some, None, length, map, slice_get};
+ghost use Rattle.std.specs.Prelude.{◌≡◌, IsSome, IfOk, None, map};
 ghost use Rattle.kpn_standard.specs.Standard.{standard};
-ghost use Rattle.kpn_model.specs.Valid.{IsValid};
 ghost use Rattle.kpn_body.specs.StandardKinds.{signature, Admitted};
 
 use crate::asked::first_answer;
 use kpn_body::{Body, Call, Standard, StandardBody, answer};
-use kpn_net::{Answer, Card, Local, Net, Token};
+use kpn_net::{Answer, Local, Net, Token};
 use std::alloc::{AllocError, Global};
 
 /// Returns the first answer of each process, in order, from a body made with a closure of its own. The closure
@@ -16,7 +15,7 @@ pub fn first_answers(alloc: Global, net: &Net<Standard>) -> Result<Vec<Answer>, 
 {
     let mut bodies = Vec::new(alloc);
     for process in 0..net.processes() {
-        let card = signed_card(net, process);
+        let card = net.card(process);
         let call: Call = Box::new(
             alloc,
             move |local: Local, last: Option<Token>| -> Answer
@@ -28,15 +27,6 @@ pub fn first_answers(alloc: Global, net: &Net<Standard>) -> Result<Vec<Answer>, 
         bodies.push(StandardBody::new(card, call))?;
     }
     each_first_answer(alloc, bodies)
-}
-
-fn signed_card(net: &Net<Standard>, process: usize) -> Card
-    requires valid { IsValid signature net.now }
-    requires within { process < length net.now.processes }
-    ensures signed { IsSome (signature result) }
-    ensures is { slice_get (map (λ p. p.card) net.now.processes) process ≡ Some result }
-{
-    net.card(process)
 }
 
 fn each_first_answer<B: Body>(alloc: Global, bodies: Vec<B>) -> Result<Vec<Answer>, AllocError>

@@ -1,6 +1,4 @@
 //! What is said of what a run or a stream left unused.
-ghost use Rattle.std.specs.Prelude.{◌<◌, length};
-
 use crate::messages::input_name;
 use hox_execute::{Pair, Ran, Streamed};
 use hox_run::{Notes, SourceNote};
@@ -8,6 +6,7 @@ use hox_stream::{Inlet, StreamFinish};
 use kpn_compute::{CardBody, Computes, bodies_of};
 use kpn_flow::stops_at_once;
 use kpn_front::{Sink, Source};
+use kpn_model::Channel;
 use kpn_model::limits::{GREATEST_BUDGET, GREATEST_HIGH_BUDGET};
 use kpn_net::Net;
 use std::alloc::Global;
@@ -92,20 +91,18 @@ fn say_without_file<R: Eprint, K: Computes>(
     let Ok(bodies) = bodies_of(alloc, net) else {
         return;
     };
-    for c in 0..net.channels() {
-        let name = net.channel_name(c);
-        if is_source(net, bodies.as_slice(), c) && !is_given(inputs, name) {
+    for channel in net.channel_list() {
+        let name = channel.name.as_str();
+        if is_source(channel, bodies.as_slice()) && !is_given(inputs, name) {
             say_no_tokens(rt, name, "in");
         }
     }
 }
 
 /// Whether the writer of a channel stops at once, and the channel holds nothing at first.
-fn is_source<K: Computes>(net: &Net<K>, bodies: &[CardBody<K>], c: usize) -> bool
-    requires { c < length net.now.channels }
-{
-    let writer = net.ends(c).writer;
-    net.tokens(c).is_empty() && writer < bodies.len() && stops_at_once(bodies, writer)
+fn is_source<K: Computes>(channel: &Channel, bodies: &[CardBody<K>]) -> bool {
+    let writer = channel.writer;
+    channel.tokens.as_slice().is_empty() && writer < bodies.len() && stops_at_once(bodies, writer)
 }
 
 /// Whether a channel of this name is fed from a file.

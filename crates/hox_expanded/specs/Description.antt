@@ -10,8 +10,8 @@ use Rattle.kpn_model.specs.declared.token.Sort.TheVariants.{Words, Flags}
 use Rattle.kpn_model.specs.declared.kinds.Card.{Card}
 use Rattle.kpn_model.specs.declared.parts.Channel.{Channel}
 use Rattle.kpn_model.specs.declared.limits.TheConstants.{CEILING}
-use Rattle.kpn_model.specs.Network.{Network, card_of, channel_of}
-use Rattle.kpn_model.specs.texts.Names.{process_name, channel_name}
+use Rattle.kpn_model.specs.Network.{Network, card_of}
+use Rattle.kpn_model.specs.texts.Names.{process_name}
 use Rattle.kpn_model.specs.texts.Reports.{lines_upto}
 use Rattle.kpn_standard.specs.Locals.{at}
 use Rattle.kpn_picture.specs.Titles.{below}
@@ -83,17 +83,16 @@ module _ (net : Network) where
       let kind = title (card_of net p).kind in
       name_part (process_name net p) ++ kind_part kind.0 ++ arguments_part kind.1 (card_of net p) ++ codes " },\n"
 
-  abbrev pub ends_part : ℕ → List ℕ
-  ends_part c =
-      let x = channel_of net c in
-      end_part (codes "\", from = \"") (process_name net x.writer) (codes "out") x.out ++ end_part (codes ", to = \"") (process_name net x.reader) (codes "in") x.input
+  abbrev pub ends_part : Channel → List ℕ
+  ends_part x =
+      end_part (codes "\", from = \"") (process_name net x.writer) (codes "out") x.out
+      ++ end_part (codes ", to = \"") (process_name net x.reader) (codes "in") x.input
 
-  abbrev pub channel_line : ℕ → List ℕ
-  channel_line c =
-      name_part (channel_name net c) ++ ends_part c ++ state_part (channel_of net c) ++ codes " },\n"
+  abbrev pub channel_line : Channel → List ℕ
+  channel_line x = name_part x.name ++ ends_part x ++ state_part x ++ codes " },\n"
 
   abbrev pub head : List ℕ
   head = version_part (is_second net) net.step ++ codes "\nbudget = " ++ decimal net.budget ++ codes "\nprocess = [\n"
 
   abbrev pub description : (ℕ → List ℕ × ℕ) → List ℕ
-  description title = head ++ lines_upto (process_line title) (length net.processes) ++ codes "]\nchannel = [\n" ++ lines_upto channel_line (length net.channels) ++ codes "]\n"
+  description title = head ++ lines_upto (process_line title) (length net.processes) ++ codes "]\nchannel = [\n" ++ flat_map channel_line net.channels ++ codes "]\n"

@@ -1,13 +1,11 @@
 //! Channels, a line each.
-ghost use Rattle.std.specs.Prelude.{◌≡◌, ◌++◌, ◌<◌, OnOk, length, string_bytes};
+ghost use Rattle.std.specs.Prelude.{◌≡◌, ◌++◌, OnOk, string_bytes};
 ghost use Rattle.std.specs.List.{flat_map};
-ghost use Rattle.kpn_model.specs.Network.{channel_of};
-ghost use Rattle.kpn_model.specs.texts.Reports.{lines_upto};
 ghost use Rattle.hox_expanded.specs.Description.{capacity_part, channel_line, end_part, ends_part, later_token, name_part, port_part, sort_part, state_part, token_text, tokens_part};
 
-use kpn_model::{Kinds, Sort, Token};
+use kpn_model::{Channel, Kinds, Sort, Token};
 use kpn_network::Net;
-use kpn_network::names::{channel_name, process_name};
+use kpn_network::names::process_name;
 use std::alloc::AllocError;
 use std::fmt::Write;
 
@@ -36,15 +34,13 @@ fn push_end(
     push_port(out, key, port)
 }
 
-fn push_ends<K: Kinds>(out: &mut String, net: &Net<K>, c: usize) -> Result<(), AllocError>
-    requires { c < length net.now.channels }
-    ensures { OnOk result (string_bytes out.new ≡ string_bytes out.old ++ ends_part net.now c) }
+fn push_ends<K: Kinds>(out: &mut String, net: &Net<K>, channel: &Channel) -> Result<(), AllocError>
+    ensures { OnOk result (string_bytes out.new ≡ string_bytes out.old ++ ends_part net.now channel.now) }
 {
-    let ends = net.ends(c);
-    let writer = process_name(net, ends.writer);
-    let reader = process_name(net, ends.reader);
-    push_end(out, "\", from = \"", writer, "out", ends.out)?;
-    push_end(out, ", to = \"", reader, "in", ends.input)?;
+    let writer = process_name(net, channel.writer);
+    let reader = process_name(net, channel.reader);
+    push_end(out, "\", from = \"", writer, "out", channel.out)?;
+    push_end(out, ", to = \"", reader, "in", channel.input)?;
     Ok(())
 }
 
@@ -112,13 +108,12 @@ fn push_tokens(out: &mut String, tokens: &[Token]) -> Result<(), AllocError>
 }
 
 /// Appends the sort, the capacity and the start tokens of a channel, where they are not the default.
-fn push_state<K: Kinds>(out: &mut String, net: &Net<K>, c: usize) -> Result<(), AllocError>
-    requires { c < length net.now.channels }
-    ensures { OnOk result (string_bytes out.new ≡ string_bytes out.old ++ state_part (channel_of net.now c)) }
+fn push_state(out: &mut String, channel: &Channel) -> Result<(), AllocError>
+    ensures { OnOk result (string_bytes out.new ≡ string_bytes out.old ++ state_part channel.now) }
 {
-    out.push_str(sort_part(net.sort(c)))?;
-    push_capacity(out, net.capacity(c))?;
-    push_tokens(out, net.tokens(c))?;
+    out.push_str(sort_part(channel.sort))?;
+    push_capacity(out, channel.capacity)?;
+    push_tokens(out, channel.tokens.as_slice())?;
     Ok(())
 }
 
@@ -128,22 +123,26 @@ pub(crate) fn push_name(out: &mut String, name: &str) -> Result<(), AllocError>
     write!(out, "  {{ name = \"{name}")
 }
 
-fn push_channel<K: Kinds>(out: &mut String, net: &Net<K>, c: usize) -> Result<(), AllocError>
-    requires { c < length net.now.channels }
-    ensures { OnOk result (string_bytes out.new ≡ string_bytes out.old ++ channel_line net.now c) }
+fn push_channel<K: Kinds>(
+    out: &mut String,
+    net: &Net<K>,
+    channel: &Channel,
+) -> Result<(), AllocError>
+    ensures { OnOk result (string_bytes out.new ≡ string_bytes out.old ++ channel_line net.now channel.now) }
 {
-    push_name(out, channel_name(net, c))?;
-    push_ends(out, net, c)?;
-    push_state(out, net, c)?;
+    push_name(out, channel.name.as_str())?;
+    push_ends(out, net, channel)?;
+    push_state(out, channel)?;
     out.push_str(" },\n")?;
     Ok(())
 }
 
 pub(crate) fn push_channels<K: Kinds>(out: &mut String, net: &Net<K>) -> Result<(), AllocError>
-    ensures { OnOk result (string_bytes out.new ≡ string_bytes out.old ++ lines_upto (channel_line net.now) (length net.now.channels)) }
+    ensures { OnOk result (string_bytes out.new ≡ string_bytes out.old ++ flat_map (channel_line net.now) net.now.channels) }
 {
-    for c in 0..net.channels() {
-        push_channel(out, net, c)?;
+    let channels = net.channel_list();
+    for channel in channels {
+        push_channel(out, net, channel)?;
     }
     Ok(())
 }

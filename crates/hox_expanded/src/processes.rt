@@ -1,29 +1,21 @@
 //! Processes, a line each.
 ghost use Rattle.std.specs.Prelude.{◌≡◌, ◌++◌, ◌<◌, OnOk, length, string_bytes};
 ghost use Rattle.kpn_model.specs.texts.Reports.{lines_upto};
-ghost use Rattle.kpn_picture.specs.Titles.{below, name_of};
+ghost use Rattle.kpn_picture.specs.Titles.{name_of};
 ghost use Rattle.hox_expanded.specs.Description.{argument_text, arguments_part, kind_part, later_argument, process_line};
 
 use crate::channels::push_name;
 use kpn_model::{Card, Kinds};
 use kpn_network::Net;
 use kpn_network::names::process_name;
-use kpn_picture::{Title, Titled};
+use kpn_picture::{Title, Titled, below};
 use std::alloc::AllocError;
 use std::fmt::Write;
 
-/// Returns how many arguments of a card, from the first on, are below 0.
-fn below(card: &Card, arity: usize) -> u64
-    ensures { result ≡ below card.now arity }
-{
-    if arity < 3 { card.args[arity] } else { 0 }
-}
-
 fn push_argument(out: &mut String, card: &Card, arity: usize, k: usize) -> Result<(), AllocError>
-    requires { k < 3 }
     ensures { OnOk result (string_bytes out.new ≡ string_bytes out.old ++ argument_text arity card.now k) }
 {
-    let argument = card.args[k];
+    let argument = card.args.get(k).copied().unwrap_or(0);
     if (k as u64) < below(card, arity) {
         let magnitude = u128::from(argument) + 1;
         write!(out, "-{magnitude}")
@@ -34,7 +26,6 @@ fn push_argument(out: &mut String, card: &Card, arity: usize, k: usize) -> Resul
 
 /// Appends argument `k` after others, if the kind has it.
 fn push_later(out: &mut String, card: &Card, arity: usize, k: usize) -> Result<(), AllocError>
-    requires { k < 3 }
     ensures { OnOk result (string_bytes out.new ≡ string_bytes out.old ++ later_argument arity card.now k) }
 {
     if k >= arity {

@@ -12,7 +12,7 @@ use Rattle.kpn_model.specs.History.{Digest, digest, each_process, place_of}
 use Rattle.kpn_model.specs.Determinacy.{OneDigest}
 use Rattle.kpn_state.specs.Standings.{standing, parked_answer}
 use Rattle.kpn_machine.specs.MachineView.{MachineView, IsFaithful}
-use Rattle.kpn_run.proofs.RunReports.{at_rest, over_of}
+use Rattle.kpn_run.proofs.RunReports.{at_rest, is_final}
 use Rattle.kpn_report.specs.Text.{end_line, digest_text, report_text}
 
 module _ (kinds : Family) (net : Network) where
@@ -45,4 +45,4 @@ module _ (kinds : Family) (admits : Admits) (s : MachineView) (cause : End) (fai
     -- and that of every run that is over, if it is
     pub every_told : OneDigest kinds → has_report cause ≡ true → (F : List Entry) (N : State) (b : End) → IsFinal kinds s.network F N b → bytes ≡ report_text kinds s.network b F N None
     every_told one has F N b final =
-        text_told ∙ one_text kinds s.network one s.history F s.state N cause b (record { run = faithful.run; over = over_of kinds s.network cause s.history s.state has justified }) final
+        text_told ∙ one_text kinds s.network one s.history F s.state N cause b (is_final kinds admits s cause faithful ended has) final

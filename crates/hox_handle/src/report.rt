@@ -1,5 +1,5 @@
 //! Reports how a flow stands.
-ghost use Rattle.std.specs.Prelude.{◌≡◌, ◌++◌, ◌<◌, IfOk, OnOk, length, string_bytes};
+ghost use Rattle.std.specs.Prelude.{◌≡◌, ◌++◌, IfOk, OnOk, length, string_bytes};
 ghost use Rattle.kpn_model.specs.texts.Reports.{lines_upto};
 ghost use Rattle.kpn_state.specs.Standings.{is_busy, standing};
 ghost use Rattle.hox_handle.specs.Reports.{channel_line, count_line, process_line, stand_line, TellsStand};
@@ -10,7 +10,7 @@ use kpn_body::Body;
 use kpn_flow::{Flow, Pause};
 use kpn_model::{End, Kinds, Place};
 use kpn_network::Net;
-use kpn_network::names::channel_name;
+use kpn_network::names::{channel_name, process_name};
 use kpn_report::places_of;
 use kpn_state::Standing;
 use std::alloc::{AllocError, Global};
@@ -64,10 +64,9 @@ fn push_process<K: Kinds>(
     places: &[Place],
     p: usize,
 ) -> Result<(), AllocError>
-    requires { p < length net.now.processes }
     ensures { OnOk result (string_bytes out.new ≡ string_bytes out.old ++ process_line net.now standings.now places.now p) }
 {
-    let name = net.process_name(p);
+    let name = process_name(net, p);
     if is_busy(standings, p) {
         return write!(out, "process {name} goes on\n");
     }

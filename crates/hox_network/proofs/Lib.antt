@@ -1,4 +1,3 @@
-pub mod Copied
 pub mod Delaying
 pub mod Held
 pub mod Budgets
@@ -8,3 +7,4 @@ pub mod Meant
 pub mod Served
 pub mod FanOut
 pub mod Writing
+pub mod Prepared

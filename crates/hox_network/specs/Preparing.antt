@@ -1,10 +1,11 @@
 -- The result of a request, from the bytes of a description.
-use Rattle.std.specs.Prelude.{◌≡◌, ◌≢◌, ◌⊎◌, ◌<◌, ◌≤◌, ℕ, Bool, true, false, List, [], length, map, get_or, Option, Some, None, IfSome, Result, Ok, Err, MatchResult}
+use Rattle.std.specs.Prelude.{◌≡◌, ◌≢◌, ◌⊎◌, ◌<◌, ◌≤◌, ◌+◌, ℕ, Bool, true, false, List, [], length, map, get_or, Option, Some, None, IfSome, Result, Ok, Err, MatchResult}
 use Rattle.kpn_sketch.specs.declared.fault.NetFault.{NetFault}
 use Rattle.kpn_sketch.specs.declared.fault.NetFault.TheVariants.{Input}
 use Rattle.kpn_model.specs.declared.kinds.Card.{Card}
 use Rattle.kpn_model.specs.declared.kinds.Signature.{Signature}
 use Rattle.kpn_model.specs.Network.{Network, number_of_channel}
+use Rattle.kpn_front.specs.Loading.{ConsumesAtMost, longest}
 use Rattle.hox_network.specs.declared.request.Request.{Request}
 use Rattle.hox_network.specs.declared.request.Fault.{Fault}
 use Rattle.hox_network.specs.declared.request.Fault.TheVariants.{Description, Tokens, Budget, NoHolder, NoShown, NoOutput, Memory, Lost}
@@ -68,3 +69,8 @@ pub record Serves {X : Type 0} (named : List ℕ → Option (ℕ × ℕ)) (signa
   pub loads : failed_before ≡ false → IfSome input (λ text. LoadsMeant named signature failed_after text loaded)
   pub failed : failed_before ≡ false → failed_after ≡ true → loaded ≡ Err Input
   pub comes : GivesLoaded gives loaded result
+
+-- and it is read to its end, as far as a description may reach
+pub record ServesFrom {X : Type 0} (named : List ℕ → Option (ℕ × ℕ)) (signature : Card → Option Signature) (gives : Network → Result X Fault → Type 0) (input rest : Option (List ℕ)) (failed_before failed_after : Bool) (result : Result X Fault) : Type 0 where
+  pub served : Serves named signature gives input failed_before failed_after result
+  pub taken : ConsumesAtMost (longest + 1) input rest

@@ -1,10 +1,12 @@
 -- Networks with start tokens from files.
 use Rattle.std.specs.Prelude.{◌≡◌, ◌≤◌, ◌<◌, ℕ, suc, List, [], ◌∷◌, length, max, min, set, Option, Some, None, if◌then◌else◌, nat_le}
+use Rattle.std.specs.List.{AllByRecursion}
 use Rattle.kpn_model.specs.declared.token.Token.{Token}
 use Rattle.kpn_model.specs.declared.token.Sort.{Sort}
 use Rattle.kpn_model.specs.declared.parts.Channel.{Channel}
 use Rattle.kpn_model.specs.declared.limits.TheConstants.{CEILING, GREATEST_BUDGET, GREATEST_HIGH_BUDGET}
 use Rattle.kpn_model.specs.Network.{Network, channel_of, number_of_channel}
+use Rattle.kpn_model.specs.Valid.{IsOfSort}
 use Rattle.kpn_tokens.specs.declared.reading.TheConstants.{MOST_TOKENS}
 use Rattle.kpn_tokens.specs.declared.layouts.Layout.{Layout}
 use Rattle.kpn_tokens.specs.Records.{Begin, Fails, Say}
@@ -28,6 +30,7 @@ most_in net = min net.ceiling MOST_TOKENS
 pub record Presets (net : Network) (file : TokenFile) (c : ℕ) (tokens : List Token) : Type 0 where
   pub channel : number_of_channel net file.channel ≡ Some c
   pub says : Say file.layout (channel_of net c).sort file.bytes tokens
+  pub sorted : AllByRecursion (IsOfSort (channel_of net c).sort) tokens
   pub few : length tokens ≤ most_in net
 
 -- the files set the start tokens of their channels, one after the other

@@ -2,13 +2,9 @@
 ghost use Rattle.std.specs.Prelude.{◌≡◌, ◌≤◌, ◌+◌, false, true, IfOk, IfSome, IsUtf8, length, map};
 ghost use Rattle.kpn_sketch.specs.declared.sketch.Delayed.{Delayed as DelayedV};
 ghost use Rattle.kpn_front.specs.Loading.{ConsumesAtMost, longest, without_text};
-ghost use Rattle.hox_network.specs.Budgets.{with_greatest_budget};
-ghost use Rattle.hox_network.specs.Copies.{with_copies};
-ghost use Rattle.hox_network.specs.Delays.{with_delays};
 ghost use Rattle.hox_network.specs.Formulas.{IsWrittenOut};
 ghost use Rattle.hox_network.specs.Meant.{IsSketchOf, LoadsMeant, as_meant};
 ghost use Rattle.hox_network.specs.Ports.{by_ports, channel_by_ports};
-ghost use Rattle.hox_network.specs.Signs.{with_signs};
 
 use crate::budget::with_greatest_budget;
 use crate::copies::with_copies;
@@ -72,27 +68,19 @@ pub fn sketch_by_ports<K: Kinds>(alloc: Global, text: &[u8]) -> Option<Sketch>
     }
 }
 
-/// Completes the sketch of a text. Errors: out of memory.
+/// Completes the sketch of a text: writes the formulas as cards, sets the default budget, the signed kinds and start
+/// tokens and the delays, adds the copies, and gives the channels the sorts of their ports. Errors: out of memory.
 fn as_meant<K: Kinds>(alloc: Global, text: &[u8], described: Delayed) -> Result<Sketch, AllocError>
     requires { IsUtf8 text.now }
     ensures { IfOk result (λ meant. (written : DelayedV) × IsWrittenOut described written × (meant ≡ as_meant K.named K.signature text.now written)) }
-{
-    let written = completed::<K>(alloc, text, described)?;
-    sorted_by_ports::<K>(alloc, written)
-}
-
-/// Writes the formulas as cards, sets the default budget, the signed kinds and start tokens and the delays, and
-/// adds the copies.
-fn completed<K: Kinds>(alloc: Global, text: &[u8], described: Delayed) -> Result<Sketch, AllocError>
-    requires { IsUtf8 text.now }
-    ensures { IfOk result (λ sketch. (written : DelayedV) × IsWrittenOut described written × (sketch ≡ with_copies K.named K.signature (with_delays K.named K.signature written.delays (with_signs K.named K.signature (with_greatest_budget text.now written.sketch))))) }
 {
     let Delayed { sketch, delays } = described;
     let written = with_formulas(alloc, sketch)?;
     let budgeted = with_greatest_budget(alloc, text, written)?;
     let signed = with_signs::<K>(alloc, budgeted)?;
     let delayed = with_delays::<K>(alloc, signed, delays.as_slice())?;
-    with_copies::<K>(alloc, delayed)
+    let copied = with_copies::<K>(alloc, delayed)?;
+    sorted_by_ports::<K>(alloc, copied)
 }
 
 /// Gives the channels the sorts of their ports. Errors: out of memory.

@@ -1,5 +1,5 @@
 //! The names of a network's channels.
-ghost use Rattle.std.specs.Prelude.{◌≡◌, ◌<◌, IfOk, Some, length, slice_get};
+ghost use Rattle.std.specs.Prelude.{◌≡◌, IfOk};
 ghost use Rattle.hox_network.specs.Preparing.{channel_names};
 
 use kpn_model::{Kinds, Listed, Text};
@@ -12,17 +12,10 @@ use std::alloc::{AllocError, Global};
 pub fn channel_names<K: Kinds>(alloc: Global, net: &Net<K>) -> Result<Listed<Text>, AllocError>
     ensures { IfOk result (λ names. names ≡ channel_names net.now) }
 {
-    let mut names = Vec::with_capacity(alloc, net.channels())?;
-    for c in 0..net.channels() {
-        names.push(name_of(alloc, net, c)?)?;
+    let channels = net.channel_list();
+    let mut names = Vec::with_capacity(alloc, channels.len())?;
+    for channel in channels {
+        names.push(Text::new(String::from_str(alloc, channel.name.as_str())?))?;
     }
     Ok(Listed::new(names))
-}
-
-#[tactic(auto, using(crate::proofs::Copied::named_at))]
-fn name_of<K: Kinds>(alloc: Global, net: &Net<K>, c: usize) -> Result<Text, AllocError>
-    requires { c < length net.now.channels }
-    ensures { IfOk result (λ name. slice_get (channel_names net.now) c ≡ Some name) }
-{
-    Ok(Text::new(String::from_str(alloc, net.channel_name(c))?))
 }

@@ -1,5 +1,5 @@
 //! Copies the parts of a network.
-ghost use Rattle.std.specs.Prelude.{◌≡◌, ◌<◌, IfOk, Some, length, slice_get};
+ghost use Rattle.std.specs.Prelude.{◌≡◌, IfOk};
 ghost use Rattle.kpn_network.specs.Parts.{network_of};
 
 use kpn_model::{Channel, Kinds, Listed, Process, Text};
@@ -22,46 +22,45 @@ pub(crate) fn parts_of<K: Kinds>(alloc: Global, net: &Net<K>) -> Result<Parts, A
 fn processes_of<K: Kinds>(alloc: Global, net: &Net<K>) -> Result<Vec<Process>, AllocError>
     ensures { IfOk result (λ v. v.items ≡ net.now.processes) }
 {
-    let mut processes = Vec::with_capacity(alloc, net.processes())?;
-    for p in 0..net.processes() {
-        processes.push(process_of(alloc, net, p)?)?;
+    let list = net.process_list();
+    let mut processes = Vec::with_capacity(alloc, list.len())?;
+    for process in list {
+        processes.push(copy_of_process(alloc, process)?)?;
     }
     Ok(processes)
 }
 
-fn process_of<K: Kinds>(alloc: Global, net: &Net<K>, p: usize) -> Result<Process, AllocError>
-    requires { p < length net.now.processes }
-    ensures { IfOk result (λ x. slice_get net.now.processes p ≡ Some x) }
+fn copy_of_process(alloc: Global, process: &Process) -> Result<Process, AllocError>
+    ensures { IfOk result (λ copy. copy ≡ process.now) }
 {
     Ok(Process {
-        name: Text::new(String::from_str(alloc, net.process_name(p))?),
-        card: net.card(p),
+        name: Text::new(String::from_str(alloc, process.name.as_str())?),
+        card: process.card,
     })
 }
 
 fn channels_of<K: Kinds>(alloc: Global, net: &Net<K>) -> Result<Vec<Channel>, AllocError>
     ensures { IfOk result (λ v. v.items ≡ net.now.channels) }
 {
-    let mut channels = Vec::with_capacity(alloc, net.channels())?;
-    for c in 0..net.channels() {
-        channels.push(channel_of(alloc, net, c)?)?;
+    let list = net.channel_list();
+    let mut channels = Vec::with_capacity(alloc, list.len())?;
+    for channel in list {
+        channels.push(copy_of_channel(alloc, channel)?)?;
     }
     Ok(channels)
 }
 
-fn channel_of<K: Kinds>(alloc: Global, net: &Net<K>, c: usize) -> Result<Channel, AllocError>
-    requires { c < length net.now.channels }
-    ensures { IfOk result (λ x. slice_get net.now.channels c ≡ Some x) }
+fn copy_of_channel(alloc: Global, channel: &Channel) -> Result<Channel, AllocError>
+    ensures { IfOk result (λ copy. copy ≡ channel.now) }
 {
-    let ends = net.ends(c);
     Ok(Channel {
-        name: Text::new(String::from_str(alloc, net.channel_name(c))?),
-        writer: ends.writer,
-        out: ends.out,
-        reader: ends.reader,
-        input: ends.input,
-        sort: net.sort(c),
-        capacity: net.capacity(c),
-        tokens: Listed::new(Vec::from_slice(alloc, net.tokens(c))?),
+        name: Text::new(String::from_str(alloc, channel.name.as_str())?),
+        writer: channel.writer,
+        out: channel.out,
+        reader: channel.reader,
+        input: channel.input,
+        sort: channel.sort,
+        capacity: channel.capacity,
+        tokens: Listed::new(Vec::from_slice(alloc, channel.tokens.as_slice())?),
     })
 }

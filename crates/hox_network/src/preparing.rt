@@ -1,9 +1,7 @@
 //! Prepares the network of a description for a request.
-ghost use Rattle.std.specs.Prelude.{◌≡◌, ◌+◌, OnOk, IfErr};
-ghost use Rattle.kpn_model.specs.Valid.{IsValid};
+ghost use Rattle.std.specs.Prelude.{◌≡◌, OnOk, IfErr};
 ghost use Rattle.kpn_network.specs.Parts.{network_of};
-ghost use Rattle.kpn_front.specs.Loading.{ConsumesAtMost, longest};
-ghost use Rattle.hox_network.specs.Preparing.{GivesNet, IsFault, Prepares, Serves};
+ghost use Rattle.hox_network.specs.Preparing.{GivesNet, IsFault, Prepares, ServesFrom};
 
 use crate::described::load_by_ports;
 use crate::names::channel_names;
@@ -24,8 +22,7 @@ pub fn prepare<K: Kinds, I: Source>(
     request: &Request,
     source: &mut I,
 ) -> Result<Net<K>, Fault>
-    ensures served { Serves K.named K.signature (GivesNet request.now) (I.remaining source.old) (I.has_failed source.old) (I.has_failed source.new) result }
-    ensures taken { ConsumesAtMost (longest + 1) (I.remaining source.old) (I.remaining source.new) }
+    ensures { ServesFrom K.named K.signature (GivesNet request.now) (I.remaining source.old) (I.remaining source.new) (I.has_failed source.old) (I.has_failed source.new) result }
 {
     let loaded: Result<Net<K>, _> = load_by_ports(alloc, source);
     match loaded {
@@ -49,20 +46,18 @@ fn prepare_parts<K: Kinds>(
     net: &Net<K>,
     parts: &mut Parts,
 ) -> Result<(), Fault>
-    requires valid { IsValid K.signature (network_of parts.old) }
-    requires same { network_of parts.old ≡ net.now }
-    ensures valid { IsValid K.signature (network_of parts.new) }
+    requires { network_of parts.old ≡ net.now }
     ensures ok { OnOk result (Prepares request.now net.now (network_of parts.new)) }
     ensures fault { IfErr result (IsFault request.now net.now) }
 {
-    if let Err(stop) = preset::<K>(alloc, parts, request.tokens.as_slice()) {
+    if let Err(stop) = preset(alloc, parts, request.tokens.as_slice()) {
         return match stop.fault {
             FileFault::NoChannel => Err(Fault::NoHolder(stop.file, channel_names(alloc, net)?)),
             _ => Err(Fault::Tokens(stop)),
         };
     }
     if let Some(budget) = request.budget {
-        if !set_budget::<K>(parts, budget) {
+        if !set_budget(parts, budget) {
             return Err(Fault::Budget(greatest_budget(parts.ceiling)));
         }
     }

@@ -1,18 +1,15 @@
 //! Sets start tokens from files.
 ghost use Rattle.std.specs.Prelude.{◌≡◌, ◌<◌, ◌≤◌, ◌⊎◌, ℕ, List, false, OnOk, IfOk, IfErr, IfSome, IsTrue, length};
-ghost use Rattle.std.specs.List.{AllByRecursion};
 ghost use Rattle.kpn_model.specs.declared.token.Token.{Token as TokenV};
 ghost use Rattle.kpn_model.specs.Network.{channel_of, number_of_channel};
-ghost use Rattle.kpn_model.specs.Valid.{IsOfSort, IsValid};
 ghost use Rattle.kpn_network.specs.Parts.{network_of};
-ghost use Rattle.kpn_tokens.specs.Records.{Say};
-ghost use Rattle.hox_network.specs.Presets.{IsFileFault, IsBytesFault, PresetAll, Presets, Stops, greatest_budget, with_tokens};
+ghost use Rattle.hox_network.specs.Presets.{IsFileFault, PresetAll, Presets, Stops, greatest_budget, with_tokens};
 
 use crate::request::TokenFile;
 use kpn_model::limits::{CEILING, GREATEST_BUDGET, GREATEST_HIGH_BUDGET};
-use kpn_model::{Kinds, Listed, Sort, Token};
+use kpn_model::{Listed, Sort, Token};
 use kpn_network::Parts;
-use kpn_tokens::{Layout, MOST_TOKENS, RecordFault, TokensFault, read_tokens};
+use kpn_tokens::{MOST_TOKENS, RecordFault, TokensFault, read_tokens};
 use std::alloc::Global;
 
 /// Why a token file is rejected.
@@ -38,18 +35,16 @@ pub struct PresetFault {
 /// Replaces the start tokens of the channels that the files name, one file after the other. A channel's
 /// capacity becomes at least their number. Errors: the first faulty file, see [`FileFault`]. The files before
 /// it have taken effect.
-pub(crate) fn preset<K: Kinds>(
+pub(crate) fn preset(
     alloc: Global,
     parts: &mut Parts,
     files: &[TokenFile],
 ) -> Result<(), PresetFault>
-    requires { IsValid K.signature (network_of parts.old) }
-    ensures valid { IsValid K.signature (network_of parts.new) }
     ensures ok { OnOk result (PresetAll files.now (network_of parts.old) (network_of parts.new)) }
     ensures fault { IfErr result (λ e. Stops files.now (network_of parts.old) e.file e.fault) }
 {
     for file in 0..files.len() {
-        match preset_one::<K>(alloc, parts, &files[file]) {
+        match preset_one(alloc, parts, &files[file]) {
             Ok(()) => {}
             Err(fault) => return Err(PresetFault { file, fault }),
         }
@@ -57,9 +52,7 @@ pub(crate) fn preset<K: Kinds>(
     Ok(())
 }
 
-fn preset_one<K: Kinds>(alloc: Global, parts: &mut Parts, file: &TokenFile) -> Result<(), FileFault>
-    requires { IsValid K.signature (network_of parts.old) }
-    ensures valid { IsValid K.signature (network_of parts.new) }
+fn preset_one(alloc: Global, parts: &mut Parts, file: &TokenFile) -> Result<(), FileFault>
     ensures ok { OnOk result ((c : ℕ) × (tokens : List TokenV) × Presets (network_of parts.old) file.now c tokens × (network_of parts.new ≡ with_tokens (network_of parts.old) c tokens)) }
     ensures fault { IfErr result (IsFileFault (network_of parts.old) file.now) }
 {
@@ -68,12 +61,17 @@ fn preset_one<K: Kinds>(alloc: Global, parts: &mut Parts, file: &TokenFile) -> R
     };
     let most = parts.ceiling.min(MOST_TOKENS);
     let sort = sort_of(parts, channel);
-    match tokens_of(alloc, file.layout, sort, file.bytes.as_slice(), most) {
+    match read_tokens(alloc, file.layout, sort, file.bytes.as_slice()) {
         Ok(tokens) => {
+            if tokens.len() > most {
+                return Err(FileFault::TooMany { most });
+            }
             hold(parts, channel, tokens);
             Ok(())
         }
-        Err(fault) => Err(fault),
+        Err(TokensFault::TooMany) => Err(FileFault::TooMany { most }),
+        Err(TokensFault::Record { number, fault }) => Err(FileFault::Record { number, fault }),
+        Err(TokensFault::Memory) => Err(FileFault::Memory),
     }
 }
 
@@ -91,39 +89,6 @@ fn sort_of(parts: &Parts, channel: usize) -> Sort
     parts.channels[channel].sort
 }
 
-/// Reads the tokens of a file, at most `most`.
-fn tokens_of(
-    alloc: Global,
-    layout: Layout,
-    sort: Sort,
-    bytes: &[u8],
-    most: usize,
-) -> Result<Vec<Token>, FileFault>
-    requires { most ≤ 1000000 }
-    ensures says { IfOk result (λ tokens. Say layout sort bytes.now tokens.items) }
-    ensures sorted { IfOk result (λ tokens. AllByRecursion (IsOfSort sort) tokens.items) }
-    ensures few { IfOk result (λ tokens. length tokens.items ≤ most) }
-    ensures fault { IfErr result (IsBytesFault layout sort bytes.now most) }
-{
-    match read_tokens(alloc, layout, sort, bytes) {
-        Ok(tokens) => at_most(tokens, most),
-        Err(TokensFault::TooMany) => Err(FileFault::TooMany { most }),
-        Err(TokensFault::Record { number, fault }) => Err(FileFault::Record { number, fault }),
-        Err(TokensFault::Memory) => Err(FileFault::Memory),
-    }
-}
-
-fn at_most(tokens: Vec<Token>, most: usize) -> Result<Vec<Token>, FileFault>
-    ensures ok { IfOk result (λ v. (v.items ≡ tokens.items) × (length v.items ≤ most)) }
-    ensures fault { IfErr result (λ e. (e ≡ FileFault.TooMany most) × (most < length tokens.items)) }
-{
-    if tokens.len() <= most {
-        Ok(tokens)
-    } else {
-        Err(FileFault::TooMany { most })
-    }
-}
-
 /// Sets the start tokens of a channel, and makes room for them.
 fn hold(parts: &mut Parts, channel: usize, tokens: Vec<Token>)
     requires { channel < length parts.old.channels.items }
@@ -137,10 +102,8 @@ fn hold(parts: &mut Parts, channel: usize, tokens: Vec<Token>)
 
 /// Sets the budget, in entries, and returns true if it is from 1 to [`greatest_budget`]; else returns false
 /// and changes nothing.
-pub(crate) fn set_budget<K: Kinds>(parts: &mut Parts, budget: u64) -> bool
-    requires { IsValid K.signature (network_of parts.old) }
-    ensures valid { IsValid K.signature (network_of parts.new) }
-    ensures yes { IsTrue result → network_of parts.new ≡ record (network_of parts.old) { budget = budget } }
+pub(crate) fn set_budget(parts: &mut Parts, budget: u64) -> bool
+    ensures yes { IsTrue result → (1 ≤ budget) × (budget ≤ greatest_budget parts.old.ceiling) × (network_of parts.new ≡ record (network_of parts.old) { budget = budget }) }
     ensures no { result ≡ false → (network_of parts.new ≡ network_of parts.old) × ((budget ≡ 0) ⊎ (greatest_budget parts.old.ceiling < budget)) }
 {
     if budget < 1 || budget > greatest_budget(parts.ceiling) {

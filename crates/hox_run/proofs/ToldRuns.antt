@@ -18,7 +18,7 @@ use Rattle.kpn_state.specs.Standings.{standing, parked_answer}
 use Rattle.kpn_machine.specs.MachineView.{MachineView, IsFaithful}
 use Rattle.kpn_laws.specs.RoomOfRun.{TakesLeastRoom}
 use Rattle.kpn_laws.specs.StreamsOfRun.{ApproachLeastSolution}
-use Rattle.kpn_run.proofs.RunReports.{at_rest, over_of}
+use Rattle.kpn_run.proofs.RunReports.{at_rest, is_final}
 use Rattle.kpn_execute.proofs.Telling.{justified_by}
 use Rattle.kpn_laws.proofs.Causes.{over_quiet}
 use Rattle.kpn_laws.proofs.Kept.{fresh_start}
@@ -157,5 +157,5 @@ told_so kinds admits s cause places verdict show outputs told faithful room stre
       notes = notes;
       whole = early_whole kinds admits s faithful whole show outputs places cause verdict judged;
       settled = λ has F N b final.
-          told_of_each kinds net show outputs told one cause b s.history F s.state N verdict (record { run = faithful.run; over = over_of kinds net cause s.history s.state has justified }) final tells;
+          told_of_each kinds net show outputs told one cause b s.history F s.state N verdict (is_final kinds admits s cause faithful ended has) final tells;
     }

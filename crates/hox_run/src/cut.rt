@@ -1,5 +1,5 @@
 //! Reports on a run that was cut: where it left each process, and the streams so far.
-ghost use Rattle.std.specs.Prelude.{◌≡◌, ◌++◌, ◌<◌, OnOk, length, string_bytes};
+ghost use Rattle.std.specs.Prelude.{◌≡◌, ◌++◌, OnOk, length, string_bytes};
 ghost use Rattle.kpn_model.specs.texts.Reports.{lines_upto};
 ghost use Rattle.hox_run.specs.Cuts.{after_verdict, left_at, left_line, left_text};
 
@@ -7,7 +7,7 @@ use crate::ended::Ended;
 use crate::shown::{ChannelAs, push_streams};
 use kpn_model::{End, Kinds, Place};
 use kpn_network::Net;
-use kpn_network::names::channel_name;
+use kpn_network::names::{channel_name, process_name};
 use kpn_report::Entries;
 use kpn_state::Standing;
 use kpn_tokens::Decimals;
@@ -64,10 +64,9 @@ fn push_left_line<K: Kinds>(
     left: Option<Place>,
     process: usize,
 ) -> Result<(), AllocError>
-    requires { process < length net.now.processes }
     ensures { OnOk result (string_bytes out.new ≡ string_bytes out.old ++ left_line net.now (λ _. left) process) }
 {
-    let name = net.process_name(process);
+    let name = process_name(net, process);
     write!(out, "process {name} ")?;
     push_left_text(out, net, left)?;
     out.push_str("\n")

@@ -162,11 +162,13 @@ fn execute_watched<K: Computes, R: Wait + Clock + Threads + Sync, P: ProgressRec
         &observer,
     ) {
         Ok(ran) => told_of_watched(alloc, &ran, &wanted.streams),
-        Err(WatchedFault::Memory { .. }) => Err(NoResult::Memory),
         Err(WatchedFault::Stopped { .. }) => Err(NoResult::Lost),
-        Err(WatchedFault::Lost { .. }) => Err(NoResult::Lost),
-        Err(WatchedFault::Workers { .. }) => unreachable!(),
-        Err(WatchedFault::Open { .. }) => unreachable!(),
+        Err(WatchedFault::Failed(fault)) => match fault {
+            RunFault::Memory { .. } => Err(NoResult::Memory),
+            RunFault::Lost { .. } => Err(NoResult::Lost),
+            RunFault::Workers { .. } => unreachable!(),
+            RunFault::Open { .. } => unreachable!(),
+        },
     }
 }
 

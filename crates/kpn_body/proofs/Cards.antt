@@ -1,6 +1,10 @@
 -- Lists of bodies, by their cards.
-use Rattle.std.proofs.Common.{◌≡◌, ℕ, zero, suc, ◌+◌, ◌≤◌, List, [], ◌∷◌, ◌++◌, length, map, take, Some, arith, slice_get, ap, sym, ◌∙◌}
+use Rattle.std.proofs.Common.{◌≡◌, ℕ, zero, suc, ◌+◌, ◌<◌, ◌≤◌, List, [], ◌∷◌, ◌++◌, length, map, option_map, take, Some, arith, get_or, slice_get, ap, sym, ◌∙◌}
 use Rattle.std.proofs.lemmas.List.{map-append, take_all}
+use Rattle.std.proofs.lemmas.Option.{slice_get-map, slice_get-get_or}
+use Rattle.kpn_model.specs.declared.kinds.Card.{Card}
+use Rattle.kpn_model.specs.declared.parts.Process.{Process}
+use Rattle.kpn_model.specs.Network.{no_process}
 
 module _ {X : Type 0} where
   -- these are the first p items of a list
@@ -23,3 +27,10 @@ module _ {X Y : Type 0} where
   -- the bodies of all cards
   pub of_all : (f : X → Y) (xs : List X) (ys : List Y) (p : ℕ) → AreFirst (map f xs) ys p → length ys ≤ p → map f xs ≡ ys
   of_all f xs ys p first long = first.is ∙ take_all p ys long
+
+module _ {X : Type 0} where
+  -- one more body, with the card of the next process
+  pub one_more_card : (f : X → Card) (xs zs : List X) (ps : List Process) (p : ℕ) (x : X) → AreFirst (map f xs) (map (λ q. q.card) ps) p → zs ≡ xs ++ x ∷ [] → p < length ps → f x ≡ (get_or ps p no_process).card → AreFirst (map f zs) (map (λ q. q.card) ps) (p + 1)
+  one_more_card f xs zs ps p x first z within is =
+      let there = slice_get-map (λ (q : Process). q.card) ps p ∙ ap (option_map (λ (q : Process). q.card)) (slice_get-get_or ps p no_process within) in
+      one_more f xs zs (map (λ q. q.card) ps) p x first z (there ∙ ap (λ c. Some c) (sym is))

@@ -7,6 +7,7 @@ use crate::answered::Answered;
 use crate::body::Body;
 use kpn_model::{Answer, Card, Kinds, Local, Token};
 use std::marker::Model;
+use std::ops::Deref;
 
 /// A process that is asked for its next act, with the body that answers for it. The body's card admits the
 /// local state and last token. A task can't be copied, and `call` calls its body once.
@@ -157,44 +158,20 @@ impl<B: Body> Model for Finished<B> {
     ghost invariant = { λ f. f.answered.card ≡ B.card f.body };
 }
 
+impl<B: Body> Deref for Finished<B> {
+    ghost use Rattle.std.specs.Prelude.{◌≡◌};
+
+    type Target = Answered<B::Kinds>;
+
+    ghost deref_gives = { λ finished answered. answered ≡ finished };
+
+    #[inline(always)]
+    fn deref(&self) -> &Answered<B::Kinds> {
+        &self.answered
+    }
+}
+
 impl<B: Body> Finished<B> {
-    /// Returns the number of the process.
-    pub fn process(&self) -> usize
-        ensures { result ≡ self.now.process }
-    {
-        self.answered.process()
-    }
-
-    /// Returns the body's card. It has a signature.
-    pub fn card(&self) -> Card
-        ensures card { result ≡ self.now.card }
-        ensures signed { IsSome (B.Kinds.signature self.now.card) }
-    {
-        self.answered.card()
-    }
-
-    /// Returns the local state in which the process was asked.
-    pub fn local(&self) -> Local
-        ensures local { result ≡ self.now.local }
-        ensures admitted { B.Kinds.admits self.now.card self.now.local self.now.last }
-    {
-        self.answered.local()
-    }
-
-    /// Returns the last token when the process was asked; `None` if its last act was no read.
-    pub fn last(&self) -> Option<Token>
-        ensures { result ≡ self.now.last }
-    {
-        self.answered.last()
-    }
-
-    /// Returns the card's answer.
-    pub fn answer(&self) -> Answer
-        ensures { result ≡ answer_to (family B.Kinds.Kinds) self.now }
-    {
-        self.answered.answer()
-    }
-
     /// Returns the body; its card is unchanged.
     pub fn into_body(self) -> B
         ensures { B.card result ≡ self.card }

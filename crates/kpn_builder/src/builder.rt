@@ -1,16 +1,17 @@
 //! Builds a description.
-ghost use Rattle.std.specs.Prelude.{◌≡◌, ◌≢◌, ◌⊎◌, ◌↔◌, ◌++◌, ◌∷◌, [], false, pos, Some, None, Err, IfOk, IfErr, IfSome, OnOk, OnErr, string_bytes};
+ghost use Rattle.std.specs.Prelude.{◌≡◌, ◌≢◌, ◌↔◌, ◌++◌, ◌∷◌, [], false, pos, Some, None, Err, IfOk, IfErr, OnOk, OnErr, string_bytes};
 ghost use Rattle.std.specs.List.{list_all};
 ghost use Rattle.kpn_model.specs.Valid.{IsValid};
 ghost use Rattle.kpn_model.specs.declared.limits.TheConstants.{DEFAULT_BUDGET};
 ghost use Rattle.kpn_sketch.specs.Description.{Describes};
 ghost use Rattle.kpn_net.specs.Faults.{first_fault};
 ghost use Rattle.kpn_net.specs.Sketched.{net_of};
+ghost use Rattle.kpn_message.specs.EveryFault.{IsMessage};
 ghost use Rattle.kpn_builder.specs.Built.{channel_of, process_of};
 ghost use Rattle.kpn_builder.specs.Written.{has_said_tokens};
 
-use crate::message::sketch_message;
 use crate::text::{TextFault, to_toml};
+use kpn_message::message_of_sketch;
 use kpn_model::limits::DEFAULT_BUDGET;
 use kpn_model::{Kinds, Listed, Sort, Text};
 use kpn_net::{Check, Net};
@@ -257,10 +258,9 @@ impl Builder {
     /// }
     /// ```
     pub fn message<K: Kinds>(&self, fault: NetFault, kinds: &str) -> Option<String>
-        ensures plain { (fault ≡ NetFault.Memory) ⊎ (fault ≡ NetFault.Input) → result ≡ None }
-        ensures said { IfSome result (λ message. string_bytes message ≢ []) }
+        ensures { IsMessage fault result }
     {
-        sketch_message::<K>(self.alloc, &self.sketch, fault, kinds)
+        message_of_sketch::<K>(self.alloc, &self.sketch, fault, kinds)
     }
 
     /// Writes the description: reading it gives the same sketch.

@@ -10,10 +10,8 @@
 #![tactic(auto)]
 
 mod builder;
-mod message;
 mod text;
 mod value;
 
 pub use builder::{Builder, NewChannel};
-pub use message::sketch_message;
 pub use text::{TextFault, to_toml};

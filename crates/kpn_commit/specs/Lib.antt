@@ -5,3 +5,4 @@ pub mod Resolving
 pub mod Works
 pub mod Coherent
 pub mod Answering
+pub mod Outside

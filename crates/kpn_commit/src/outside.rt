@@ -1,14 +1,9 @@
 //! Tokens that enter or leave a channel from outside the network.
-ghost use Rattle.std.specs.Prelude.{◌≡◌, ◌<◌, ◌++◌, ◌∷◌, ℕ, [], length, drop, Some, IsTrue, false};
-ghost use Rattle.kpn_model.specs.Network.{channel_of};
+ghost use Rattle.std.specs.Prelude.{◌≡◌, ◌∷◌, length, drop, Some, IsTrue, false};
 ghost use Rattle.kpn_model.specs.Families.{family};
-ghost use Rattle.kpn_model.specs.Semantics.{tokens, capacity, with_channel, IsPossible};
-ghost use Rattle.kpn_model.specs.Valid.{IsOfSort};
-ghost use Rattle.kpn_state.specs.StateAndHistory.{state_and_history};
-ghost use Rattle.kpn_state.specs.declared.standing.Standing.TheVariants.{Out};
-ghost use Rattle.kpn_state.specs.Standings.{standing};
-ghost use Rattle.kpn_commit.specs.Coherent.{IsCoherent, IsCoherentBut};
-ghost use Rattle.kpn_commit.specs.Answering.{OnlyWakes};
+ghost use Rattle.kpn_model.specs.Semantics.{tokens, IsPossible};
+ghost use Rattle.kpn_commit.specs.Coherent.{IsCoherentBut};
+ghost use Rattle.kpn_commit.specs.Outside.{MayFeed, MayDrain, OnlyWakes, fed, drained};
 
 use crate::cores::Core;
 use crate::parking::unlist;
@@ -73,13 +68,8 @@ fn wake<K: Kinds, H: Keeper>(net: &Net<K>, core: &mut Core<H>, process: usize)
 /// Appends a token to a channel from outside the network, without an entry, and makes the channel's reader
 /// ready if it is parked and can continue. The channel must have room, and the token must be of its sort.
 pub fn feed<K: Kinds, H: Keeper>(net: &Net<K>, core: &mut Core<H>, channel: usize, token: Token)
-    requires coherent { IsCoherent (family K.Kinds) K.admits net.now core.old }
-    requires channel { channel < length net.now.channels }
-    requires sort { IsOfSort (channel_of net.now channel).sort token }
-    requires space { length (tokens core.old.store.state channel) < capacity core.old.store.state channel }
-    ensures fed { core.new.store ≡ state_and_history (with_channel core.old.store.state channel (tokens core.old.store.state channel ++ token ∷ []) (capacity core.old.store.state channel)) core.old.store.history core.old.store.limit }
-    ensures coherent { IsCoherent (family K.Kinds) K.admits net.now core.new }
-    ensures none_sent { (p : ℕ) → standing core.new.standings p ≡ Out → standing core.old.standings p ≡ Out }
+    requires { MayFeed (family K.Kinds) K.admits net.now core.old channel token }
+    ensures { OnlyWakes (family K.Kinds) K.admits net.now (fed core.old channel token) core.new }
 {
     core.store.feed(channel, token);
     if core.waiting.marks.reader_waits(channel) {
@@ -91,13 +81,9 @@ pub fn feed<K: Kinds, H: Keeper>(net: &Net<K>, core: &mut Core<H>, channel: usiz
 /// Removes the first token of a channel, without an entry, and makes the channel's writer ready if it is
 /// parked and can continue. Returns the token. There must be one.
 pub fn drain<K: Kinds, H: Keeper>(net: &Net<K>, core: &mut Core<H>, channel: usize) -> Token
-    requires coherent { IsCoherent (family K.Kinds) K.admits net.now core.old }
-    requires channel { channel < length net.now.channels }
-    requires some { 0 < length (tokens core.old.store.state channel) }
+    requires { MayDrain (family K.Kinds) K.admits net.now core.old channel }
     ensures token { tokens core.old.store.state channel ≡ result ∷ drop 1 (tokens core.old.store.state channel) }
-    ensures rest { core.new.store ≡ state_and_history (with_channel core.old.store.state channel (drop 1 (tokens core.old.store.state channel)) (capacity core.old.store.state channel)) core.old.store.history core.old.store.limit }
-    ensures coherent { IsCoherent (family K.Kinds) K.admits net.now core.new }
-    ensures none_sent { (p : ℕ) → standing core.new.standings p ≡ Out → standing core.old.standings p ≡ Out }
+    ensures wakes { OnlyWakes (family K.Kinds) K.admits net.now (drained core.old channel) core.new }
 {
     let token = core.store.drain(channel);
     if core.waiting.marks.writer_waits(channel) {

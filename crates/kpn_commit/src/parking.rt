@@ -1,6 +1,7 @@
 //! Parks processes, and notes that one waits no more.
-ghost use Rattle.std.specs.Prelude.{◌≡◌, ◌≢◌, ◌↔◌, ◌<◌, ◌+◌, ℕ, length, set, Contains, true, false};
+ghost use Rattle.std.specs.Prelude.{◌≡◌, ◌<◌, length, set, true, false};
 ghost use Rattle.kpn_state.specs.declared.standing.Standing.TheVariants.{Parked};
+ghost use Rattle.kpn_state.specs.Candidates.{Removes};
 ghost use Rattle.kpn_state.specs.Marks.{mark_lists};
 ghost use Rattle.kpn_state.specs.Standings.{standing, is_busy};
 ghost use Rattle.kpn_commit.specs.Waiting.{AreWaiting};
@@ -45,9 +46,7 @@ pub fn park<K: Kinds, H: Keeper>(net: &Net<K>, core: &mut Core<H>, process: usiz
 #[inline(always)]
 pub(crate) fn unlist(waiting: &mut Waiting, capacity: usize, channel: usize)
     requires { channel < length waiting.old.marks.writers }
-    ensures pairs { (x : ℕ × ℕ) → Contains waiting.new.candidates.pairs x ↔ ((x ≢ (capacity, channel)) × Contains waiting.old.candidates.pairs x) }
-    ensures many { Contains waiting.old.candidates.pairs (capacity, channel) → length waiting.new.candidates.pairs + 1 ≡ length waiting.old.candidates.pairs }
-    ensures limit { waiting.new.candidates.limit ≡ waiting.old.candidates.limit }
+    ensures candidates { Removes waiting.old.candidates (capacity, channel) waiting.new.candidates }
     ensures marks { waiting.new.marks ≡ mark_lists waiting.old.marks.readers (set waiting.old.marks.writers channel false) }
 {
     waiting.candidates.remove(capacity, channel);

@@ -1,15 +1,13 @@
 //! The immediate effect of an answer.
-ghost use Rattle.std.specs.Prelude.{◌≡◌, ◌≢◌, ◌↔◌, ◌<◌, ◌≤◌, ◌+◌, length, Some, None, IfSome, IfNone, IsTrue, true, false};
+ghost use Rattle.std.specs.Prelude.{◌≡◌, ◌≢◌, IfSome, IfNone, IsTrue, false};
 ghost use Rattle.kpn_model.specs.Families.{family};
 ghost use Rattle.kpn_model.specs.declared.kinds.Answer.{Answer as AnswerV};
-ghost use Rattle.kpn_model.specs.Semantics.{wants, IsPossible};
-ghost use Rattle.kpn_model.specs.declared.kinds.Act.TheVariants.{Stop};
+ghost use Rattle.kpn_model.specs.Semantics.{IsPossible};
 ghost use Rattle.kpn_state.specs.declared.standing.Standing.TheVariants.{Parked, Ready};
 ghost use Rattle.kpn_state.specs.Standings.{standing, partner, HasChannel};
-ghost use Rattle.kpn_commit.specs.Coherent.{IsCoherent, IsCoherentBut};
 ghost use Rattle.kpn_commit.specs.Waiting.{HasMark, partner_marked};
-ghost use Rattle.kpn_commit.specs.Reactions.{Reacts, CannotGoOn};
-ghost use Rattle.kpn_commit.specs.Answering.{HasAnswered, ReactsTo, KeepsStanding, Resumes, made_ready};
+ghost use Rattle.kpn_commit.specs.Reactions.{CannotGoOn};
+ghost use Rattle.kpn_commit.specs.Answering.{HasAnswered, HasAnsweredInPlace, MayResume, ReactsTo, ReactsInPlace, KeepsStanding, Resumes, made_ready};
 ghost use Rattle.kpn_commit.specs.declared.react.Reaction.{Reaction as ReactionV};
 
 use crate::act::{advance, advance_on};
@@ -38,7 +36,7 @@ pub(crate) fn react<K: Kinds, H: Keeper>(
     process: usize,
     answer: Answer,
 ) -> Reaction
-    requires { HasAnswered (family K.Kinds) K.admits net.now core.old process answer }
+    requires { HasAnswered (family K.Kinds) K.admits net.now core.old process answer 2 }
     ensures { ReactsTo (family K.Kinds) K.admits net.now core.old process answer result core.new }
 {
     let next = answer.next;
@@ -75,7 +73,7 @@ fn react_to<K: Kinds, H: Keeper>(
     process: usize,
     answer: Answer,
 ) -> Reaction
-    requires { HasAnswered (family K.Kinds) K.admits net.now core.old process answer }
+    requires { HasAnswered (family K.Kinds) K.admits net.now core.old process answer 2 }
     ensures { ReactsTo (family K.Kinds) K.admits net.now core.old process answer result core.new }
 {
     let Some(deed) = advance(net, &mut core.store, &mut core.standings, process, answer) else {
@@ -105,7 +103,7 @@ pub(crate) fn react_on<K: Kinds, H: Keeper>(
     process: usize,
     answer: Answer,
 ) -> Option<Reaction>
-    requires { HasAnswered (family K.Kinds) K.admits net.now core.old process answer }
+    requires { HasAnswered (family K.Kinds) K.admits net.now core.old process answer 2 }
     ensures reacts { IfSome result (λ r. ReactsTo (family K.Kinds) K.admits net.now core.old process answer r (made_ready core.new process)) }
     ensures standing { KeepsStanding core.old.standings core.new.standings process }
     ensures cannot { IfNone result (CannotGoOn (family K.Kinds) net.now core.old.store.state process answer) }
@@ -135,13 +133,8 @@ pub fn react_ready<K: Kinds, H: Keeper>(
     process: usize,
     answer: Answer,
 ) -> bool
-    requires coherent { IsCoherent (family K.Kinds) K.admits net.now core.old }
-    requires wants { wants (family K.Kinds) net.now core.old.store.state process ≡ Some answer }
-    requires ready { standing core.old.standings process ≡ Ready }
-    requires room { length core.old.store.history + 2 ≤ core.old.store.limit }
-    ensures reacts { (r : ReactionV) × Reacts (family K.Kinds) net.now core.old.store core.old.standings process answer r core.new.store core.new.standings }
-    ensures ready { result ≡ true ↔ standing core.new.standings process ≡ Ready }
-    ensures coherent { IsCoherent (family K.Kinds) K.admits net.now core.new }
+    requires { HasAnsweredInPlace (family K.Kinds) K.admits net.now core.old process answer }
+    ensures { ReactsInPlace (family K.Kinds) K.admits net.now core.old process answer result core.new }
 {
     match react_on(net, core, process, answer) {
         Some(_reaction) => true,
@@ -161,7 +154,7 @@ fn park_or_stop<K: Kinds, H: Keeper>(
     process: usize,
     answer: Answer,
 )
-    requires answered { HasAnswered (family K.Kinds) K.admits net.now core.old process answer }
+    requires answered { HasAnswered (family K.Kinds) K.admits net.now core.old process answer 2 }
     requires cannot { CannotGoOn (family K.Kinds) net.now core.old.store.state process answer }
     ensures reacts { (r : ReactionV) × ReactsTo (family K.Kinds) K.admits net.now core.old process answer r core.new }
     ensures unready { standing core.new.standings process ≢ Ready }
@@ -173,8 +166,7 @@ fn park_or_stop<K: Kinds, H: Keeper>(
 /// it did; otherwise nothing changes. Not inlined, out of the way of a commit that enables no parked process.
 #[inline(never)]
 fn resume<K: Kinds, H: Keeper>(net: &Net<K>, core: &mut Core<H>, process: usize) -> bool
-    requires coherent { IsCoherentBut (family K.Kinds) K.admits net.now (Some process) core.old }
-    requires room { length core.old.store.history < core.old.store.limit }
+    requires { MayResume (family K.Kinds) K.admits net.now core.old process }
     ensures resumes { IsTrue result → Resumes (family K.Kinds) K.admits net.now core.old process core.new }
     ensures cannot { result ≡ false → (a : AnswerV) → standing core.old.standings process ≡ Parked a → IsPossible (family K.Kinds) net.now core.old.store.state process a.act → ⊥ }
     ensures same { result ≡ false → core.new ≡ core.old }

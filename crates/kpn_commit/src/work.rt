@@ -1,10 +1,11 @@
 //! The work of a commit.
-ghost use Rattle.std.specs.Prelude.{◌≡◌, ◌≢◌, ◌<◌, ◌≤◌, ◌+◌, length, set, Some, None, true, false, IfSome, IfNone};
+ghost use Rattle.std.specs.Prelude.{◌≡◌, ◌≢◌, ◌<◌, ◌≤◌, ◌+◌, length, set, None, false, IfSome, IfNone};
 ghost use Rattle.kpn_model.specs.Families.{family};
-ghost use Rattle.kpn_model.specs.Semantics.{wants, IsPossible};
+ghost use Rattle.kpn_model.specs.Semantics.{IsPossible};
 ghost use Rattle.kpn_model.specs.declared.kinds.Act.TheVariants.{Stop};
 ghost use Rattle.kpn_state.specs.declared.standing.Standing.TheVariants.{Ready};
 ghost use Rattle.kpn_state.specs.Standings.{standing, is_busy};
+ghost use Rattle.kpn_commit.specs.Answering.{HasAnswered, WorksTo};
 ghost use Rattle.kpn_commit.specs.Coherent.{IsCoherent};
 ghost use Rattle.kpn_commit.specs.Resolving.{Resolves};
 ghost use Rattle.kpn_commit.specs.Works.{Works, outcome_of, end_after, resolution_entries};
@@ -83,13 +84,8 @@ pub fn work<K: Kinds, H: Keeper>(
     process: usize,
     answer: Answer,
 ) -> (Outcome, Option<End>)
-    requires coherent { IsCoherent (family K.Kinds) K.admits net.now core.old }
-    requires process { process < length core.old.standings }
-    requires wants { wants (family K.Kinds) net.now core.old.store.state process ≡ Some answer }
-    requires busy { is_busy (standing core.old.standings process) ≡ true }
-    requires room { length core.old.store.history + 3 ≤ core.old.store.limit }
-    ensures works { Works (family K.Kinds) net.now core.old.store core.old.standings process answer result.0 core.new.store core.new.standings result.1 }
-    ensures coherent { IsCoherent (family K.Kinds) K.admits net.now core.new }
+    requires { HasAnswered (family K.Kinds) K.admits net.now core.old process answer 3 }
+    ensures { WorksTo (family K.Kinds) K.admits net.now core.old process answer result.0 result.1 core.new }
 {
     let reaction = react(net, core, process, answer);
     let (resolution, end) = settle(net, core);
@@ -107,11 +103,7 @@ pub fn work_on<K: Kinds, H: Keeper>(
     process: usize,
     answer: Answer,
 ) -> Option<Outcome>
-    requires coherent { IsCoherent (family K.Kinds) K.admits net.now core.old }
-    requires process { process < length core.old.standings }
-    requires wants { wants (family K.Kinds) net.now core.old.store.state process ≡ Some answer }
-    requires busy { is_busy (standing core.old.standings process) ≡ true }
-    requires room { length core.old.store.history + 3 ≤ core.old.store.limit }
+    requires { HasAnswered (family K.Kinds) K.admits net.now core.old process answer 3 }
     ensures works { IfSome result (λ outcome. Works (family K.Kinds) net.now core.old.store core.old.standings process answer outcome core.new.store (set core.new.standings process Ready) None) }
     ensures stays { standing core.new.standings process ≡ standing core.old.standings process }
     ensures many { length core.new.standings ≡ length core.old.standings }

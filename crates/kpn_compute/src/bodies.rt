@@ -1,6 +1,5 @@
 //! Bodies that are only a card.
-ghost use Rattle.std.specs.Prelude.{◌≡◌, ◌<◌, IsSome, IfOk, Some, length, map, slice_get};
-ghost use Rattle.kpn_model.specs.Valid.{IsValid};
+ghost use Rattle.std.specs.Prelude.{◌≡◌, IsSome, IfOk, map};
 
 use crate::computes::Computes;
 use kpn_body::Body;
@@ -75,16 +74,7 @@ pub fn bodies_of<K: Computes>(alloc: Global, net: &Net<K>) -> Result<Vec<CardBod
 {
     let mut bodies = Vec::with_capacity(alloc, net.processes())?;
     for process in 0..net.processes() {
-        bodies.push(CardBody::new(signed_card(net, process)))?;
+        bodies.push(CardBody::new(net.card(process)))?;
     }
     Ok(bodies)
-}
-
-fn signed_card<K: Computes>(net: &Net<K>, process: usize) -> Card
-    requires valid { IsValid K.signature net.now }
-    requires within { process < length net.now.processes }
-    ensures signed { IsSome (K.signature result) }
-    ensures is { slice_get (map (λ p. p.card) net.now.processes) process ≡ Some result }
-{
-    net.card(process)
 }

@@ -1,5 +1,5 @@
 //! Which processes could go on, as text.
-ghost use Rattle.std.specs.Prelude.{◌≡◌, ◌++◌, ◌<◌, OnOk, length, string_bytes};
+ghost use Rattle.std.specs.Prelude.{◌≡◌, ◌++◌, OnOk, length, string_bytes};
 ghost use Rattle.kpn_model.specs.texts.Reports.{lines_upto};
 ghost use Rattle.kpn_dry.specs.ActiveLine.{active_line, active_name};
 ghost use Rattle.kpn_dry.specs.Told.{is_told_dry};
@@ -7,6 +7,7 @@ ghost use Rattle.kpn_dry.specs.Told.{is_told_dry};
 use crate::telling::is_dry;
 use kpn_model::Kinds;
 use kpn_network::Net;
+use kpn_network::names::process_name;
 use kpn_state::Standing;
 use std::alloc::AllocError;
 use std::fmt::Write;
@@ -43,12 +44,11 @@ fn push_active_name<K: Kinds>(
     standings: &[Standing],
     process: usize,
 ) -> Result<(), AllocError>
-    requires { process < length net.now.processes }
     ensures { OnOk result (string_bytes out.new ≡ string_bytes out.old ++ active_name net.now (is_told_dry net.now standings.now) process) }
 {
     if is_dry(net, standings, process) {
         return Ok(());
     }
-    let name = net.process_name(process);
+    let name = process_name(net, process);
     write!(out, " {name}")
 }

@@ -20,7 +20,7 @@ use Rattle.kpn_machine.specs.MachineView.{MachineView, IsFaithful}
 use Rattle.kpn_machine.specs.declared.opening.OpenFault.{OpenFault}
 use Rattle.kpn_machine.specs.declared.opening.OpenFault.TheVariants.{Bodies, Card as WrongCard, Memory as NoMemory}
 use Rattle.kpn_machine.specs.Opening.{cards_of, IsOpenFault}
-use Rattle.kpn_run.proofs.RunReports.{at_rest, over_of}
+use Rattle.kpn_run.proofs.RunReports.{at_rest, is_final}
 use Rattle.kpn_laws.specs.RoomOfRun.{TakesLeastRoom}
 use Rattle.kpn_laws.specs.StreamsOfRun.{ApproachLeastSolution}
 use Rattle.kpn_report.specs.Text.{end_line, digest_text, report_text}
@@ -69,7 +69,7 @@ run_told kinds admits s cause places channel status bytes faithful room streams 
       status_is = status_is;
       text_is = told;
       every = λ has F N b final.
-          told ∙ one_text kinds s.network one s.history F s.state N cause b channel (record { run = faithful.run; over = over_of kinds s.network cause s.history s.state has justified }) final;
+          told ∙ one_text kinds s.network one s.history F s.state N cause b channel (is_final kinds admits s cause faithful ended has) final;
     }
 
 -- if all processes are ready, none is out

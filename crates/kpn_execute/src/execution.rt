@@ -1,9 +1,9 @@
 //! Runs a network and writes the report.
-ghost use Rattle.std.specs.Prelude.{◌≡◌, ◌<◌, ◌≤◌, Some, None, IfOk, IfErr, IsSome, map, option_map, string_bytes};
+ghost use Rattle.std.specs.Prelude.{◌≡◌, ◌<◌, ◌≤◌, Some, None, IfOk, IfErr, IsSome, map, option_map};
 ghost use Rattle.kpn_model.specs.Network.{number_of_channel};
 ghost use Rattle.kpn_model.specs.Families.{family};
 ghost use Rattle.kpn_machine.specs.Opening.{cards_of};
-ghost use Rattle.kpn_execute.specs.Execution.{status_of_end, IsChannelToShow, Executes, TellsEnded, TellsShown, TellsRun, Writes};
+ghost use Rattle.kpn_execute.specs.Execution.{status_of_end, IsChannelToShow, Executes, TellsEnded, TellsShown, Writes};
 
 use kpn_body::Body;
 use kpn_front::{ExitStatus, Sink, say, say_lost, say_no_channel, say_refused};
@@ -11,19 +11,19 @@ use kpn_laws::{determinacy_of, least_room_of, least_solution_of};
 use kpn_machine::{Chronicle, Machine};
 use kpn_net::{End, Kinds, Net, NetFault};
 use kpn_report::{Entries, Tallied, places_of, text_of_entries};
-use kpn_run::starting::RunRequest;
 use kpn_run::{Open, RunFault, run_with_keeper};
 use kpn_state::{Keeper, Packed};
-use std::alloc::{AllocError, Global};
+use std::alloc::Global;
 use std::rt::Clock;
 use std::sync::Wait;
 use std::thread::Threads;
 
-/// The text about a run, and its status.
+/// A network, its bodies, and how many workers run it.
 #[derive(Drop)]
-struct Told {
-    status: ExitStatus,
-    text: String,
+struct WorkersRequest<B: Body> {
+    net: Net<B::Kinds>,
+    bodies: Vec<B>,
+    workers: usize,
 }
 
 /// Runs a network with 1 to 16 workers and a body for each process, and writes the report, with the stream of
@@ -60,7 +60,7 @@ pub fn execute<B: Body, S: Sink, R: Wait + Clock + Threads + Sync>(
             if workers == 1 {
                 return tell_alone(alloc, net, bodies, channel, sink);
             }
-            let request = RunRequest {
+            let request = WorkersRequest {
                 net,
                 bodies,
                 workers,
@@ -111,7 +111,7 @@ fn tell_alone<B: Body, S: Sink>(
 fn tell_by_workers<B: Body, S: Sink, R: Wait + Clock + Threads + Sync>(
     rt: &R,
     alloc: Global,
-    request: RunRequest<B>,
+    request: WorkersRequest<B>,
     channel: Option<usize>,
     sink: &mut S,
 ) -> u8
@@ -119,7 +119,7 @@ fn tell_by_workers<B: Body, S: Sink, R: Wait + Clock + Threads + Sync>(
     requires workers { (1 < request.workers) × (request.workers ≤ 16) }
     ensures { Writes (TellsShown (family B.Kinds.Kinds) request.net request.workers channel) (S.seen sink.old) (S.seen sink.new) result }
 {
-    let RunRequest {
+    let WorkersRequest {
         net,
         bodies,
         workers,
@@ -136,6 +136,7 @@ fn tell_by_workers<B: Body, S: Sink, R: Wait + Clock + Threads + Sync>(
     }
 }
 
+/// Writes the report of a run that has ended.
 fn say_told<K: Kinds, H: Keeper, E: Entries, S: Sink>(
     alloc: Global,
     chronicle: &Chronicle<K, H>,
@@ -147,22 +148,6 @@ fn say_told<K: Kinds, H: Keeper, E: Entries, S: Sink>(
     requires entries { E.entries entries.now ≡ chronicle.now.history }
     ensures { Writes (TellsEnded (family K.Kinds) chronicle.now.network channel) (S.seen sink.old) (S.seen sink.new) result }
 {
-    match told_of(alloc, chronicle, entries, channel) {
-        Ok(told) => say(sink, told.text.as_str(), told.status),
-        Err(_) => say_refused(&NetFault::Memory, sink),
-    }
-}
-
-fn told_of<K: Kinds, H: Keeper, E: Entries>(
-    alloc: Global,
-    chronicle: &Chronicle<K, H>,
-    entries: &E,
-    channel: Option<usize>,
-) -> Result<Told, AllocError>
-    requires ended { IsSome chronicle.now.end }
-    requires entries { E.entries entries.now ≡ chronicle.now.history }
-    ensures { IfOk result (λ told. TellsRun (family K.Kinds) chronicle.now.network channel told.status (string_bytes told.text)) }
-{
     let Some(end) = chronicle.end() else {
         unreachable!()
     };
@@ -170,12 +155,14 @@ fn told_of<K: Kinds, H: Keeper, E: Entries>(
     least_room_of::<K>();
     least_solution_of::<K>();
     let net = chronicle.net();
-    let places = places_of(alloc, net, chronicle.standings())?;
-    let text = text_of_entries(alloc, net, entries, places.as_slice(), end, channel)?;
-    Ok(Told {
-        status: status_of(end),
-        text,
-    })
+    let Ok(places) = places_of(alloc, net, chronicle.standings()) else {
+        return say_refused(&NetFault::Memory, sink);
+    };
+    let written = text_of_entries(alloc, net, entries, places.as_slice(), end, channel);
+    let Ok(text) = written else {
+        return say_refused(&NetFault::Memory, sink);
+    };
+    say(sink, text.as_str(), status_of(end))
 }
 
 fn status_of(end: End) -> ExitStatus

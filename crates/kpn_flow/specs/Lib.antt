@@ -1,5 +1,6 @@
 pub mod Events
 pub mod Flows
+pub mod Moves
 pub mod Ends
 pub mod Pauses
 pub mod Stretches

@@ -1,5 +1,5 @@
 //! The flow.
-ghost use Rattle.std.specs.Prelude.{◌≡◌, ◌↔◌, ℕ, ◌<◌, ◌≤◌, length, map, take, drop, replicate, IfOk, IfErr, OnOk, IfSome, IfNone, IsTrue, true, false, []};
+ghost use Rattle.std.specs.Prelude.{◌≡◌, ◌↔◌, ℕ, ◌<◌, length, map, replicate, IfOk, IfErr, OnOk, IfSome, IfNone, IsTrue, true, false, []};
 ghost use Rattle.std.specs.List.{list_all};
 ghost use Rattle.kpn_model.specs.Network.{channel_of};
 ghost use Rattle.kpn_model.specs.Families.{family};
@@ -9,8 +9,9 @@ ghost use Rattle.kpn_state.specs.declared.standing.Standing.TheVariants.{Ready};
 ghost use Rattle.kpn_state.specs.Standings.{standing, is_busy, parked_answer};
 ghost use Rattle.kpn_machine.specs.Opening.{cards_of};
 ghost use Rattle.kpn_flow.specs.Ends.{AreApart, IsFlowFault};
-ghost use Rattle.kpn_flow.specs.Events.{Happens, Fed, Drained, Flows};
+ghost use Rattle.kpn_flow.specs.Events.{Happens, Drained};
 ghost use Rattle.kpn_flow.specs.Flows.{flow_view, is_among, nothing_counted, with_ended, AreEnds, IsReached, IsSameFlow, MayFeed, MayFeedAll};
+ghost use Rattle.kpn_flow.specs.Moves.{Feeds, FeedsAll, DrainsInto};
 ghost use Rattle.kpn_flow.specs.Pauses.{Advances, IsStarving, TellWants};
 ghost use Rattle.kpn_flow.specs.Pieces.{IsOneRunInPieces, IsExhausted};
 ghost use Rattle.kpn_flow.specs.Stands.{IsStand};
@@ -386,10 +387,7 @@ impl<B: Body> Flow<B> {
     /// ```
     pub fn feed(&mut self, channel: usize, token: Token) -> bool
         requires { MayFeed self.old channel token }
-        ensures same { IsSameFlow self.old self.new }
-        ensures counts { self.new.counts ≡ self.old.counts }
-        ensures fed { IsTrue result → Happens (family B.Kinds.Kinds) self.old.network self.old.state (Fed channel token) self.new.state }
-        ensures full { result ≡ false → (self.new ≡ self.old) × (capacity self.old.state channel ≤ length (tokens self.old.state channel)) }
+        ensures { Feeds (family B.Kinds.Kinds) self.old channel token result self.new }
     {
         let (held, capacity) = self.core.store.tokens_and_capacity(channel);
         if held >= capacity {
@@ -457,11 +455,7 @@ impl<B: Body> Flow<B> {
     /// ```
     pub fn feed_all(&mut self, channel: usize, batch: &[Token]) -> usize
         requires { MayFeedAll self.old channel batch.now }
-        ensures same { IsSameFlow self.old self.new }
-        ensures counts { self.new.counts ≡ self.old.counts }
-        ensures few { result ≤ length batch.now }
-        ensures fed { Flows (family B.Kinds.Kinds) self.old.network self.old.state (map (Fed channel) (take result batch.now)) self.new.state }
-        ensures full { result < length batch.now → capacity self.new.state channel ≤ length (tokens self.new.state channel) }
+        ensures { FeedsAll (family B.Kinds.Kinds) self.old channel batch.now result self.new }
     {
         let mut fed = 0;
         while fed < batch.len() {
@@ -482,13 +476,7 @@ impl<B: Body> Flow<B> {
     /// ```
     pub fn drain_into(&mut self, channel: usize, buffer: &mut [Token]) -> usize
         requires { is_among self.old.outputs channel ≡ true }
-        ensures same { IsSameFlow self.old self.new }
-        ensures counts { self.new.counts ≡ self.old.counts }
-        ensures few { result ≤ length buffer.old }
-        ensures length { length buffer.new ≡ length buffer.old }
-        ensures drained { Flows (family B.Kinds.Kinds) self.old.network self.old.state (map (Drained channel) (take result buffer.new)) self.new.state }
-        ensures rest { drop result buffer.new ≡ drop result buffer.old }
-        ensures empty { result < length buffer.old → tokens self.new.state channel ≡ [] }
+        ensures { DrainsInto (family B.Kinds.Kinds) self.old channel buffer.old result buffer.new self.new }
     {
         let mut drained = 0;
         while drained < buffer.len() {

@@ -1,5 +1,5 @@
 -- Asking ready processes, one after the other.
-use Rattle.std.specs.Prelude.{◌≡◌, ℕ, ◌<◌, List, [], ◌∷◌, Some, None, length}
+use Rattle.std.specs.Prelude.{◌≡◌, ◌≢◌, ℕ, ◌<◌, ◌≤◌, List, [], ◌∷◌, Option, Some, None, IfSome, length}
 use Rattle.kpn_model.specs.declared.kinds.Answer.{Answer}
 use Rattle.kpn_model.specs.Network.{Family, Network, Admits}
 use Rattle.kpn_model.specs.Semantics.{wants}
@@ -9,6 +9,8 @@ use Rattle.kpn_state.specs.declared.standing.Standing.TheVariants.{Ready}
 use Rattle.kpn_state.specs.Standings.{standing, StandingsFit}
 use Rattle.kpn_commit.specs.declared.react.Reaction.{Reaction}
 use Rattle.kpn_commit.specs.Reactions.{Reacts}
+use Rattle.kpn_commit.specs.declared.cores.Core.{Core}
+use Rattle.kpn_commit.specs.Coherent.{IsCoherent}
 
 module _ (kinds : Family) (admits : Admits) (net : Network) where
   -- a ready process is asked, and does what it wants or is parked; a parked process may then do its deed
@@ -24,3 +26,12 @@ module _ (kinds : Family) (admits : Admits) (net : Network) where
   abbrev pub AreAsked : ℕ → StateAndHistory → List Standing → List Reaction → StateAndHistory → List Standing → Type 0
   AreAsked until s standings [] t moved = (t ≡ s) × (moved ≡ standings)
   AreAsked until s standings (r ∷ rs) t moved = (length s.history < until) × (between : StateAndHistory) × (standings_between : List Standing) × IsAsked s standings r between standings_between × AreAsked until between standings_between rs t moved
+
+  -- this many ready processes were asked, at most `limit`; fewer only if there are then `until` entries or no process is
+  -- ready; `next`, if any, is ready
+  pub record AsksReady {H : Type 0} (until limit : ℕ) (core : Core H) (count : ℕ) (next : Option ℕ) (moved : Core H) : Type 0 where
+    pub asked : (reactions : List Reaction) × (length reactions ≡ count) × AreAsked until core.store core.standings reactions moved.store moved.standings
+    pub coherent : IsCoherent kinds admits net moved
+    pub again : IfSome next (λ p. standing moved.standings p ≡ Ready)
+    pub most : count ≤ limit
+    pub fewer : count < limit → length moved.store.history < until → (p : ℕ) → standing moved.standings p ≢ Ready

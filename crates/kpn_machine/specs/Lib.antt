@@ -3,3 +3,4 @@ pub mod MachineView
 pub mod Commits
 pub mod Asking
 pub mod OpenFaults
+pub mod Finishing

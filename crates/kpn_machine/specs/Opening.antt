@@ -1,14 +1,17 @@
 -- How a machine starts, and when it fails to.
-use Rattle.std.specs.Prelude.{◌≡◌, ◌≢◌, ℕ, ◌<◌, List, Option, Some, None, length, map, get_or}
+use Rattle.std.specs.Prelude.{◌≡◌, ◌≢◌, ℕ, ◌<◌, List, [], Option, Some, None, length, map, get_or, replicate}
 use Rattle.kpn_model.specs.declared.kinds.Card.{Card}
 use Rattle.kpn_model.specs.declared.history.Status.{Status}
 use Rattle.kpn_model.specs.declared.history.Status.TheVariants.{Live}
 use Rattle.kpn_model.specs.declared.parts.Process.{Process}
 use Rattle.kpn_model.specs.declared.parts.Channel.{Channel}
-use Rattle.kpn_model.specs.Network.{Family, no_process}
-use Rattle.kpn_model.specs.Semantics.{Held}
+use Rattle.kpn_model.specs.Network.{Family, Network, no_process}
+use Rattle.kpn_model.specs.Semantics.{Held, start}
+use Rattle.kpn_state.specs.declared.standing.Standing.TheVariants.{Ready}
 use Rattle.kpn_machine.specs.declared.opening.OpenFault.{OpenFault}
 use Rattle.kpn_machine.specs.declared.opening.OpenFault.TheVariants.{Bodies, Card as WrongCard, Memory}
+use Rattle.kpn_machine.specs.declared.machine.OpenRefused.{OpenRefused}
+use Rattle.kpn_machine.specs.MachineView.{MachineView, machine_view, IsFresh}
 
 abbrev pub starting : Family → Process → Status
 starting kinds p = Live (kinds.start p.card) None
@@ -24,6 +27,18 @@ abbrev pub IsOpenFault : List Process → List Card → OpenFault → Type 0
 IsOpenFault ps cards Bodies = length cards ≢ length ps
 IsOpenFault ps cards WrongCard = (length cards ≡ length ps) × (cards ≢ cards_of ps)
 IsOpenFault ps cards Memory = cards ≡ cards_of ps
+
+-- a machine at the start of the network, whose processes have bodies of these cards
+pub record Opens (kinds : Family) (net : Network) (cards : List Card) (s : MachineView) : Type 0 where
+  pub opened : s ≡ machine_view net (start kinds net) [] (replicate (length net.processes) Ready) None 0
+  pub fresh : IsFresh s
+  pub cards_are : cards ≡ cards_of net.processes
+
+-- this network and these bodies come back unchanged, with what is wrong with them
+pub record IsOpenRefused {B K : Type 0} (card : B → Card) (net : Network) (bodies : List B) (refused : OpenRefused B K) : Type 0 where
+  pub net_is : refused.net ≡ net
+  pub bodies_are : refused.bodies.items ≡ bodies
+  pub applies : IsOpenFault net.processes (map card bodies) refused.fault
 
 abbrev pub AreSeated : List Card → List (Option Card) → Type 0
 AreSeated cards slots = (p : ℕ) → p < length cards → get_or slots p None ≡ Some (get_or cards p no_process.card)

@@ -1,12 +1,11 @@
 //! Asks ready processes in place: the one loop of machines and flows.
-ghost use Rattle.std.specs.Prelude.{◌≡◌, ◌≢◌, ℕ, List, ◌<◌, ◌≤◌, ◌+◌, length, get_or, map, option_map, Some, None, IfSome};
+ghost use Rattle.std.specs.Prelude.{◌≡◌, ◌≢◌, ◌<◌, ◌≤◌, ◌+◌, length, get_or, map, option_map, Some, None, IfSome};
 ghost use Rattle.kpn_model.specs.Network.{card_of};
 ghost use Rattle.kpn_model.specs.Families.{family};
 ghost use Rattle.kpn_model.specs.Semantics.{status};
 ghost use Rattle.kpn_model.specs.declared.history.Status.TheVariants.{Done, Live};
-ghost use Rattle.kpn_commit.specs.declared.react.Reaction.{Reaction as ReactionV};
 ghost use Rattle.kpn_commit.specs.Coherent.{IsCoherent};
-ghost use Rattle.kpn_machine.specs.Asking.{AreAsked};
+ghost use Rattle.kpn_machine.specs.Asking.{AsksReady};
 ghost use Rattle.kpn_machine.specs.MachineView.{HasBodies};
 ghost use Rattle.kpn_state.specs.declared.standing.Standing.TheVariants.{Ready};
 ghost use Rattle.kpn_state.specs.Standings.{standing};
@@ -37,11 +36,7 @@ pub fn ask_ready<B: Body, H: Keeper>(
     requires bodies { HasBodies net.now core.old.standings (map (option_map B.card) bodies.now) }
     requires again { IfSome again.old (λ p. standing core.old.standings p ≡ Ready) }
     requires room { until + 1 ≤ core.old.store.limit }
-    ensures asked { (reactions : List ReactionV) × (length reactions ≡ result) × AreAsked (family B.Kinds.Kinds) B.Kinds.admits net.now until core.old.store core.old.standings reactions core.new.store core.new.standings }
-    ensures coherent { IsCoherent (family B.Kinds.Kinds) B.Kinds.admits net.now core.new }
-    ensures again { IfSome again.new (λ p. standing core.new.standings p ≡ Ready) }
-    ensures most { result ≤ most }
-    ensures fewer { result < most → length core.new.store.history < until → (p : ℕ) → standing core.new.standings p ≢ Ready }
+    ensures { AsksReady (family B.Kinds.Kinds) B.Kinds.admits net.now until most core.old result again.new core.new }
 {
     let mut left = most;
     while left > 0 {

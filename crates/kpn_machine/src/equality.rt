@@ -1,7 +1,8 @@
-//! Equality of cards and of local states.
+//! Comparing cards, and statuses with what a task holds.
 ghost use Rattle.std.specs.Prelude.{◌≡◌, ◌↔◌, IsTrue};
+ghost use Rattle.kpn_model.specs.declared.history.Status.TheVariants.{Live};
 
-use kpn_model::{Card, Local};
+use kpn_model::{Card, Local, Status, Token};
 
 pub(crate) fn same_card(a: Card, b: Card) -> bool
     ensures { IsTrue result ↔ (a ≡ b) }
@@ -12,10 +13,14 @@ pub(crate) fn same_card(a: Card, b: Card) -> bool
     a.kind == b.kind && (x == u) & (y == v) && z == w
 }
 
-pub(crate) fn same_local(a: Local, b: Local) -> bool
-    ensures { IsTrue result ↔ (a ≡ b) }
+/// Whether a status is live, with this local state and this last token.
+pub(crate) fn is_live_with(status: &Status, held: Local, read: Option<Token>) -> bool
+    ensures { IsTrue result ↔ (status.now ≡ Live held read) }
 {
-    let [s, t, x, y] = a;
-    let [u, v, w, z] = b;
-    (s == u) & (t == v) & (x == w) & (y == z)
+    let Status::Live { local, last } = status else {
+        return false;
+    };
+    let [s, t, x, y] = *local;
+    let [u, v, w, z] = held;
+    (s == u) & (t == v) & (x == w) & (y == z) && *last == read
 }

@@ -1,11 +1,11 @@
 //! The machine.
-ghost use Rattle.std.specs.Prelude.{count_by, ◌≡◌, ◌≢◌, ℕ, List, ◌<◌, ◌≤◌, ◌+◌, ◌↔◌, [], replicate, length, get_or, set, map, option_map, Some, None, IfSome, IfNone, IfErr, IfOk, OnOk, IsTrue, IsSome};
+ghost use Rattle.std.specs.Prelude.{count_by, ◌≡◌, ◌≢◌, ℕ, List, ◌<◌, ◌≤◌, ◌+◌, ◌↔◌, [], replicate, length, get_or, set, map, option_map, Some, None, IfSome, IfNone, IfErr, IfOk, OnOk, IsTrue};
 ghost use Rattle.kpn_model.specs.Network.{card_of};
 ghost use Rattle.kpn_model.specs.Families.{family};
 ghost use Rattle.kpn_model.specs.History.{growths as growths_of};
 ghost use Rattle.kpn_model.specs.Semantics.{status, start, IsPossible};
 ghost use Rattle.kpn_model.specs.declared.kinds.Act.TheVariants.{Stop};
-ghost use Rattle.kpn_machine.specs.Opening.{cards_of, IsOpenFault};
+ghost use Rattle.kpn_machine.specs.Opening.{cards_of, Opens, IsOpenRefused};
 ghost use Rattle.kpn_model.specs.declared.history.Status.TheVariants.{Done, Live};
 ghost use Rattle.kpn_model.specs.Valid.{IsWellTyped};
 ghost use Rattle.kpn_state.specs.declared.standing.Standing.TheVariants.{Out, Ready};
@@ -14,12 +14,11 @@ ghost use Rattle.kpn_body.specs.Input.{input, answer_to};
 ghost use Rattle.kpn_machine.specs.MachineView.{machine_view, IsOut, IsOutAt, TakesOut, IsFaithful, IsFresh};
 ghost use Rattle.kpn_commit.specs.declared.outcome.Outcome.{Outcome as OutcomeV};
 ghost use Rattle.kpn_machine.specs.Commits.{Commits, CommitsOn, Appends, EndsAs, ContinuesRun, GoesRound, GoesRounds, GoesOn, TellsEnabled, entries_appended};
-ghost use Rattle.kpn_laws.specs.RoomOfRun.{TakesLeastRoom};
-ghost use Rattle.kpn_laws.specs.StreamsOfRun.{ApproachLeastSolution};
+ghost use Rattle.kpn_machine.specs.Finishing.{FinishesAlone};
 
 use crate::asking::ask_ready;
 use crate::chronicle::Chronicle;
-use crate::equality::{same_card, same_local};
+use crate::equality::{is_live_with, same_card};
 use crate::opening::{OpenFault, Start, misfit, prepare, seat_all};
 use kpn_body::{Body, Finished, Task};
 use kpn_commit::work::{settle, work, work_on};
@@ -105,12 +104,8 @@ impl<B: Body> Machine<B> {
         net: Net<B::Kinds>,
         bodies: Vec<B>,
     ) -> Result<Machine<B>, OpenRefused<B>>
-        ensures opened { IfOk result (λ m. m ≡ machine_view net (start (family B.Kinds.Kinds) net) [] (replicate (length net.processes) Ready) None 0) }
-        ensures fresh { IfOk result IsFresh }
-        ensures cards { OnOk result (map B.card bodies.items ≡ cards_of net.processes) }
-        ensures net_back { IfErr result (λ refused. refused.net ≡ net) }
-        ensures bodies_back { IfErr result (λ refused. refused.bodies.items ≡ bodies.items) }
-        ensures fault { IfErr result (λ refused. IsOpenFault net.processes (map B.card bodies.items) refused.fault) }
+        ensures opens { IfOk result (Opens (family B.Kinds.Kinds) net (map B.card bodies.items)) }
+        ensures refused { IfErr result (IsOpenRefused B.card net bodies.items) }
     {
         Machine::<B, Wide>::open_with_keeper(alloc, net, bodies)
     }
@@ -139,9 +134,7 @@ impl<B: Body, H: Keeper> Machine<B, H> {
         ensures opened { IfOk result (λ m. m ≡ machine_view net (start (family B.Kinds.Kinds) net) [] (replicate (length net.processes) Ready) None 0) }
         ensures fresh { IfOk result IsFresh }
         ensures cards { OnOk result (map B.card bodies.items ≡ cards_of net.processes) }
-        ensures net_back { IfErr result (λ refused. refused.net ≡ net) }
-        ensures bodies_back { IfErr result (λ refused. refused.bodies.items ≡ bodies.items) }
-        ensures fault { IfErr result (λ refused. IsOpenFault net.processes (map B.card bodies.items) refused.fault) }
+        ensures refused { IfErr result (IsOpenRefused B.card net bodies.items) }
     {
         if let Some(fault) = misfit(&net, bodies.as_slice()) {
             return Err(OpenRefused { net, bodies, fault });
@@ -321,10 +314,7 @@ fn is_out_with<K: Kinds, H: Keeper>(net: &Net<K>, core: &Core<H>, held: Input) -
     if !same_card(net.card(held.process), held.card) {
         return false;
     }
-    match core.store.status(held.process) {
-        Status::Live { local, last } => same_local(*local, held.local) && *last == held.last,
-        Status::Done => false,
-    }
+    is_live_with(core.store.status(held.process), held.local, held.last)
 }
 
 impl<B: Body, H: Keeper> Machine<B, H> {
@@ -557,11 +547,7 @@ impl<B: Body, H: Keeper> Machine<B, H> {
     /// ```
     pub fn finish_alone(&mut self)
         requires { count_by is_out self.old.standings ≡ 0 }
-        ensures goes { ContinuesRun (family B.Kinds.Kinds) self.old self.new }
-        ensures end { IsSome self.new.end }
-        ensures faithful { IsFaithful (family B.Kinds.Kinds) B.Kinds.admits self.new }
-        ensures room { TakesLeastRoom (family B.Kinds.Kinds) self.new.network self.new.history self.new.state }
-        ensures streams { ApproachLeastSolution (family B.Kinds.Kinds) self.new.network self.new.history self.new.state }
+        ensures { FinishesAlone (family B.Kinds.Kinds) B.Kinds.admits self.old self.new }
     {
         while self.end().is_none() {
             self.go_on(u64::MAX);

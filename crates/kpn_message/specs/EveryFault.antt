@@ -1,9 +1,9 @@
 -- The messages of a sketch: each fault that no other may have caused, at each place that has it.
-use Rattle.std.specs.Prelude.{◌≡◌, ◌≢◌, ◌≤◌, ◌-◌, ℕ, zero, suc, Bool, true, not, ◌&&◌, ◌||◌, List, [], ◌∷◌, ◌++◌, length, map, take, string_bytes, Option, if◌then◌else◌}
+use Rattle.std.specs.Prelude.{◌≡◌, ◌≢◌, ◌≤◌, ◌-◌, ℕ, zero, suc, Bool, true, not, ◌&&◌, ◌||◌, ◌⊎◌, List, [], ◌∷◌, ◌++◌, length, map, take, string_bytes, Option, None, IfSome, String, if◌then◌else◌}
 use Rattle.std.specs.Io.Iter.{u64_saturate}
 use Rattle.std.specs.List.{All, flat_map}
 use Rattle.kpn_sketch.specs.declared.fault.NetFault.{NetFault}
-use Rattle.kpn_sketch.specs.declared.fault.NetFault.TheVariants.{Version, Counts, Name, Kind, Args, NoEnd, Twice, Unused, Sorts, Capacity, Budget, Tokens, Step}
+use Rattle.kpn_sketch.specs.declared.fault.NetFault.TheVariants.{Version, Counts, Name, Kind, Args, NoEnd, Twice, Unused, Sorts, Capacity, Budget, Tokens, Step, Memory, Input}
 use Rattle.kpn_model.specs.declared.kinds.Card.{Card}
 use Rattle.kpn_model.specs.declared.kinds.Signature.{Signature}
 use Rattle.kpn_sketch.specs.declared.sketch.Sketch.{Sketch}
@@ -22,6 +22,11 @@ every_fault = Version ∷ Counts ∷ Name ∷ Kind ∷ Args ∷ NoEnd ∷ Twice 
 abbrev pub for_each_below : {A : Type 0} → (ℕ → List A) → ℕ → List A
 for_each_below f zero = []
 for_each_below f (suc n) = for_each_below f n ++ f n
+
+-- the message of a fault, if it has one: it is not empty, and a fault that says all has none
+pub record IsMessage {Z : Type 0} (fault : NetFault) (message : Option (String Z)) : Type 0 where
+  pub plain : (fault ≡ Memory) ⊎ (fault ≡ Input) → message ≡ None
+  pub said : IfSome message (λ text. string_bytes text ≢ [])
 
 abbrev pub subject : Message → NetFault × Location
 subject message = (message.fault, message.place)

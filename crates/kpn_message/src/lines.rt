@@ -20,26 +20,9 @@ pub fn line_of_table(text: &[u8], header: &[u8], tables: usize, k: usize) -> Opt
     ensures sure { OnSome result (tells_lines text.now header.now tables ≡ true) }
     ensures told { IfNone result (tells_lines text.now header.now tables ≡ true → tables ≤ k) }
 {
-    if tells_lines(text, header, tables) {
-        line_of_header(text, header, k)
-    } else {
-        None
+    if !tells_lines(text, header, tables) {
+        return None;
     }
-}
-
-/// Whether each table begins with a header, and nothing else looks like one.
-fn tells_lines(text: &[u8], header: &[u8], tables: usize) -> bool
-    ensures { result ≡ tells_lines text.now header.now tables }
-{
-    !has_word(text, &QUOTES)
-        && !has_word(text, &APOSTROPHES)
-        && count_headers(text, header) == tables
-}
-
-fn line_of_header(text: &[u8], header: &[u8], k: usize) -> Option<usize>
-    ensures line { IfSome result (IsLineOf text.now header.now k) }
-    ensures none { IfNone result (count_below (is_header text.now header.now) (length text.now) ≤ k) }
-{
     let mut left = k;
     let mut line = 1usize;
     let mut begins = true;
@@ -56,6 +39,15 @@ fn line_of_header(text: &[u8], header: &[u8], k: usize) -> Option<usize>
         }
     }
     None
+}
+
+/// Whether each table begins with a header, and nothing else looks like one.
+fn tells_lines(text: &[u8], header: &[u8], tables: usize) -> bool
+    ensures { result ≡ tells_lines text.now header.now tables }
+{
+    !has_word(text, &QUOTES)
+        && !has_word(text, &APOSTROPHES)
+        && count_headers(text, header) == tables
 }
 
 fn count_headers(text: &[u8], header: &[u8]) -> usize
@@ -81,7 +73,7 @@ fn count_word(text: &[u8], word: &[u8]) -> usize
 {
     let mut count = 0usize;
     for i in 0..text.len() {
-        count += one_if(stands_at(text, word, i));
+        count += one_if(text[i..].starts_with(word));
     }
     count
 }
@@ -90,27 +82,14 @@ fn is_header(text: &[u8], header: &[u8], i: usize, begins: bool) -> bool
     requires { i ≤ length text.now }
     ensures { result ≡ (begins && stands_at text.now header.now i) }
 {
-    begins && stands_at(text, header, i)
-}
-
-fn stands_at(text: &[u8], word: &[u8], i: usize) -> bool
-    requires { i ≤ length text.now }
-    ensures { result ≡ stands_at text.now word.now i }
-{
-    text[i..].starts_with(word)
+    begins && text[i..].starts_with(header)
 }
 
 /// Whether only blanks precede the byte after this one in its line.
 fn begins_after(byte: u8, begins: bool) -> bool
     ensures { result ≡ (byte == 10 || (is_blank byte && begins)) }
 {
-    byte == b'\n' || (is_blank(byte) && begins)
-}
-
-fn is_blank(byte: u8) -> bool
-    ensures { result ≡ is_blank byte }
-{
-    byte == b' ' || byte == b'\t'
+    byte == b'\n' || ((byte == b' ' || byte == b'\t') && begins)
 }
 
 fn one_if(holds: bool) -> usize

@@ -1,5 +1,6 @@
 //! The message about a description's fault.
 ghost use Rattle.std.specs.Prelude.{◌≡◌, ◌≢◌, ◌⊎◌, [], true, option_map, slice_get, IfSome, string_bytes};
+ghost use Rattle.kpn_message.specs.EveryFault.{IsMessage};
 
 use crate::channels::push_channel;
 use crate::keys::push_misfit;
@@ -27,14 +28,13 @@ pub fn message_of<K: Kinds>(
     fault: NetFault,
     kinds: &str,
 ) -> Option<String>
-    ensures plain { (fault ≡ NetFault.Memory) ⊎ (fault ≡ NetFault.Input) → result ≡ None }
-    ensures said { IfSome result (λ message. string_bytes message ≢ []) }
+    ensures { IsMessage fault result }
 {
     if says_all(fault) {
         return None;
     }
     match fault {
-        NetFault::NotToml | NetFault::Keys => message_of_text(alloc, text, false),
+        NetFault::NotToml | NetFault::Keys => unless_empty(unread_in(alloc, text, false).ok()?),
         _ => {
             let sketch = read_sketch(alloc, text).ok()?;
             message_of_sketch::<K>(alloc, &sketch, fault, kinds)
@@ -48,7 +48,7 @@ pub fn message_of<K: Kinds>(
 /// kinds. There is no message for `Memory`, `Input`, `NotToml` and `Keys`, nor if out of memory.
 ///
 /// ```text
-/// message_of_sketch::<K>(alloc, sketch, fault, kinds)
+/// message_of_sketch::<K>(self.alloc, &self.sketch, fault, kinds)
 /// ```
 pub fn message_of_sketch<K: Kinds>(
     alloc: Global,
@@ -56,8 +56,7 @@ pub fn message_of_sketch<K: Kinds>(
     fault: NetFault,
     kinds: &str,
 ) -> Option<String>
-    ensures plain { (fault ≡ NetFault.Memory) ⊎ (fault ≡ NetFault.Input) → result ≡ None }
-    ensures said { IfSome result (λ message. string_bytes message ≢ []) }
+    ensures { IsMessage fault result }
 {
     match fault {
         NetFault::NotToml | NetFault::Keys | NetFault::Memory | NetFault::Input => None,
@@ -81,28 +80,17 @@ fn says_all(fault: NetFault) -> bool
 pub fn message_of_delayed(alloc: Global, text: &[u8]) -> Option<String>
     ensures said { IfSome result (λ message. string_bytes message ≢ []) }
 {
-    message_of_text(alloc, text, true)
+    unless_empty(unread_in(alloc, text, true).ok()?)
 }
 
-fn message_of_text(alloc: Global, text: &[u8], has_delays: bool) -> Option<String>
-    ensures said { IfSome result (λ message. string_bytes message ≢ []) }
-{
+/// Returns what is wrong with a text that is not TOML, or else with its keys; nothing if nothing is.
+fn unread_in(alloc: Global, text: &[u8], has_delays: bool) -> Result<String, AllocError> {
     let mut out = String::new(alloc);
-    push_unread(alloc, &mut out, text, has_delays).ok()?;
-    unless_empty(out)
-}
-
-/// Appends what is wrong with a text that is not TOML, or else with its keys.
-fn push_unread(
-    alloc: Global,
-    out: &mut String,
-    text: &[u8],
-    has_delays: bool,
-) -> Result<(), AllocError> {
     match toml::table_from_slice(alloc, text) {
-        Ok(table) => push_misfit(alloc, out, text, &table, has_delays),
-        Err(error) => push_syntax(out, text, &error),
+        Ok(table) => push_misfit(alloc, &mut out, text, &table, has_delays)?,
+        Err(error) => push_syntax(&mut out, text, &error)?,
     }
+    Ok(out)
 }
 
 fn unless_empty(out: String) -> Option<String>

@@ -9,6 +9,8 @@ use Rattle.kpn_state.specs.declared.standing.Standing.TheVariants.{Ready}
 use Rattle.kpn_commit.specs.declared.outcome.Outcome.{Outcome}
 use Rattle.kpn_machine.specs.MachineView.{MachineView, IsOut, TakesOut}
 use Rattle.kpn_machine.specs.Commits.{Commits, Appends, entries_appended}
+use Rattle.kpn_monitor.specs.declared.guarded.Taken.{Taken}
+use Rattle.kpn_monitor.specs.declared.guarded.Taken.TheVariants.{Task, Over as RunOver}
 use Rattle.kpn_monitor.specs.declared.guarded.Went.{Went}
 use Rattle.kpn_monitor.specs.declared.guarded.Went.TheVariants.{On, Nowhere, Over}
 use Rattle.kpn_monitor.specs.Views.{Shares}
@@ -81,3 +83,8 @@ pub record AsksInPlace (kinds : Family) (admits : Admits) (net : Network) (most 
   pub found : went ≡ Nowhere → 0 < most → FoundNothing kinds admits net
   pub over : (e : End) → went ≡ Over e → new ≡ record old { overs = 1 }
   pub ended : (e : End) → went ≡ Over e → HasEnded kinds admits net e
+
+-- a task for this seat, or the end of the run, which the seat then has met
+abbrev pub Receives : {B K : Type 0} → Family → Admits → Network → Shares → Shares → Taken B K → Type 0
+Receives kinds admits net old new (Task i) = (new ≡ old) × WasTaken kinds admits net i
+Receives kinds admits net old new (RunOver e) = (new ≡ record old { overs = 1 }) × HasEnded kinds admits net e

@@ -34,6 +34,12 @@ pub record IsLaidOut (kinds : Family) (places : List (Option Input)) (answers : 
   pub tasks : AreTaken (drop given places)
   pub answered : AreAnswers kinds (tasks_in (drop given places)) (drop given answers)
 
+-- the first task not called yet was called, a task of this process; or all were
+abbrev pub CallsNext : Placed → Option ℕ → Placed → Type 0
+CallsNext p None q = (p.called ≡ length p.tasks) × (q ≡ p)
+CallsNext p (Some n) q =
+    (i : Input) × (slice_get p.tasks p.called ≡ Some i) × (i.process ≡ n) × (p.called < length p.tasks) × (q ≡ record p { called = p.called + 1 })
+
 -- there is a first answer, a machine asked for it, and its outcome has room
 pub record HasFirst (s : MachineView) (p : Placed) : Type 0 where
   pub called : 0 < p.called

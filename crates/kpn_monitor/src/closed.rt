@@ -8,16 +8,17 @@ ghost use Rattle.kpn_watch.specs.Shown.{shows};
 ghost use Rattle.kpn_monitor.specs.Kept.{IsShown};
 ghost use Rattle.kpn_machine.specs.MachineView.{IsFaithful};
 
+use crate::booked::BookedRun;
 use crate::monitor::Monitor;
 use crate::naming::EntryLedger;
 use crate::seat::Seat;
 use kpn_body::Body;
 use kpn_machine::Chronicle;
-use kpn_model::{End, Entry, Kinds};
-use kpn_network::Net;
+use kpn_model::Kinds;
 use kpn_state::{Keeper, Wide};
 use kpn_watch::{Board, CountingPublisher, Progress, Watcher};
 use std::marker::{Model, PhantomData};
+use std::ops::Deref;
 use std::sync::ledger::Ledger;
 
 /// Why `close` failed.
@@ -54,12 +55,10 @@ impl<B: Body, E: EntryLedger, O: Ledger, H: Keeper> Unclosed<B, E, O, H> {
     }
 }
 
-/// The machine's network, history, standings and end, and the receipts: the sum of the seats' shares of
-/// entries, as many as entries. Only `Monitor::close` makes one.
+/// A closed monitor: what is left of its run, and the board, which shows it. Only `Monitor::close` makes one.
 #[derive(Drop)]
 pub struct Closed<K: Kinds, E: EntryLedger, H: Keeper = Wide> {
-    chronicle: Chronicle<K, H>,
-    receipts: u64,
+    run: BookedRun<K, H>,
     board: Board,
     publisher: CountingPublisher,
     of: PhantomData<E>,
@@ -73,9 +72,21 @@ impl<K: Kinds, E: EntryLedger, H: Keeper> Model for Closed<K, E, H> {
 
     ghost Value = { ClosedView };
 
-    ghost view = { λ c. record { machine = c.chronicle; receipts = c.receipts } };
+    ghost view = { λ c. c.run };
 
-    ghost invariant = { λ c. IsClosed (family K.Kinds) K.admits E.net (record { machine = c.chronicle; receipts = c.receipts }) × IsShown E.board c.chronicle c.publisher × (c.board ≡ E.board) };
+    ghost invariant = { λ c. IsClosed (family K.Kinds) K.admits E.net c.run × IsShown E.board c.run.machine c.publisher × (c.board ≡ E.board) };
+}
+
+impl<K: Kinds, E: EntryLedger, H: Keeper> Deref for Closed<K, E, H> {
+    ghost use Rattle.std.specs.Prelude.{◌≡◌};
+
+    type Target = BookedRun<K, H>;
+
+    ghost deref_gives = { λ closed run. run ≡ closed };
+
+    fn deref(&self) -> &BookedRun<K, H> {
+        &self.run
+    }
 }
 
 impl<K: Kinds, E: EntryLedger, H: Keeper> Closed<K, E, H> {
@@ -93,35 +104,11 @@ impl<K: Kinds, E: EntryLedger, H: Keeper> Closed<K, E, H> {
         ensures { result ≡ record { machine = chronicle; receipts = receipts } }
     {
         Closed {
-            chronicle,
-            receipts,
+            run: BookedRun::new(chronicle, receipts),
             board,
             publisher,
             of: PhantomData,
         }
-    }
-
-    /// Returns the network, which the monitor's type names.
-    pub fn net(&self) -> &Net<K>
-        ensures { result.now ≡ self.now.machine.network }
-    {
-        self.chronicle.net()
-    }
-
-    /// Returns the sum of the seats' shares of entries, which is the number of entries.
-    pub fn receipts(&self) -> u64
-        ensures receipts { result ≡ self.now.receipts }
-        ensures entries { result ≡ length self.now.machine.history }
-    {
-        self.receipts
-    }
-
-    /// Returns how the run ended; `None` if it has not.
-    pub fn end(&self) -> Option<End>
-        ensures end { result ≡ self.now.machine.end }
-        ensures faithful { IsFaithful (family K.Kinds) K.admits self.now.machine }
-    {
-        self.chronicle.end()
     }
 
     /// Consumes a watcher of this monitor, and returns the numbers of entries and growths and how the run
@@ -137,26 +124,16 @@ impl<K: Kinds, E: EntryLedger, H: Keeper> Closed<K, E, H> {
         self.publisher.join(&self.board, watcher)
     }
 
-    /// Returns the machine's network, history, standings and end.
-    pub fn into_chronicle(self) -> Chronicle<K, H>
-        ensures { result ≡ self.machine }
+    /// Returns what is left of the run.
+    pub fn into_run(self) -> BookedRun<K, H>
+        ensures { result ≡ self }
     {
         let Closed {
-            chronicle,
-            receipts: _,
+            run,
             board: _,
             publisher: _,
             of: _,
         } = self;
-        chronicle
-    }
-}
-
-impl<K: Kinds, E: EntryLedger> Closed<K, E> {
-    /// Returns the entries, in order.
-    pub fn history(&self) -> &[Entry]
-        ensures { result.now ≡ self.now.machine.history }
-    {
-        self.chronicle.history()
+        run
     }
 }

@@ -12,7 +12,7 @@ ghost use Rattle.kpn_model.specs.Semantics.{State, IsRun};
 ghost use Rattle.kpn_watch.specs.declared.progress.Phase.TheVariants.{Running};
 ghost use Rattle.kpn_watch.specs.Phases.{phase_of};
 ghost use Rattle.kpn_monitor.specs.Kept.{IsShown, HasEnded, WasTaken, WentRounds, FoundNothing};
-ghost use Rattle.kpn_monitor.specs.Hands.{AsksInPlace, CommitsAnswer, Deals, TakesOutAll, GivesBack, Gives, WereCommitted, answers_of};
+ghost use Rattle.kpn_monitor.specs.Hands.{AsksInPlace, CommitsAnswer, Deals, TakesOutAll, GivesBack, Gives, Receives, WereCommitted, answers_of};
 ghost use Rattle.kpn_body.specs.Input.{Input};
 ghost use Rattle.kpn_commit.specs.declared.outcome.Outcome.{Outcome as OutcomeV};
 ghost use Rattle.kpn_machine.specs.MachineView.{MachineView, IsFaithful, IsFresh, TakesOut};
@@ -129,10 +129,9 @@ impl<B: Body, E: EntryLedger, O: Ledger, H: Keeper> Guarded<B, E, O, H> {
     pub(crate) fn take(&mut self, seat: &mut Seat<E, O>) -> Option<Taken<B>>
         ensures none { IfNone result ((seat.new ≡ seat.old) × (self.new ≡ self.old)) }
         ensures nothing { IfNone result (FoundNothing (family B.Kinds.Kinds) B.Kinds.admits E.net) }
-        ensures task { (t : Input) → result ≡ Some (Taken.Task t) → (seat.new ≡ seat.old) × TakesOut self.old.machine t self.new.machine }
-        ensures over { (e : EndV) → result ≡ Some (Taken.Over e) → (seat.new ≡ record seat.old { overs = 1 }) × (self.old.machine.end ≡ Some e) × (self.new.machine ≡ self.old.machine) }
-        ensures taken { (t : Input) → result ≡ Some (Taken.Task t) → WasTaken (family B.Kinds.Kinds) B.Kinds.admits E.net t }
-        ensures ended { (e : EndV) → result ≡ Some (Taken.Over e) → HasEnded (family B.Kinds.Kinds) B.Kinds.admits E.net e }
+        ensures received { IfSome result (Receives (family B.Kinds.Kinds) B.Kinds.admits E.net seat.old seat.new) }
+        ensures task { (t : Input) → result ≡ Some (Taken.Task t) → TakesOut self.old.machine t self.new.machine }
+        ensures over { (e : EndV) → result ≡ Some (Taken.Over e) → (self.old.machine.end ≡ Some e) × (self.new.machine ≡ self.old.machine) }
     {
         match self.machine.end() {
             Some(end) => {
@@ -198,24 +197,17 @@ impl<B: Body, E: EntryLedger, O: Ledger, H: Keeper> Guarded<B, E, O, H> {
         is_refused
     }
 
-    // Notes in the seat that the run has ended, if it has.
-    fn meet_end(&mut self, seat: &mut Seat<E, O>) -> Next
+    /// Notes in the seat that the run has ended, and returns the end; `None` if it has not, or if the book of
+    /// overs is full.
+    fn meet_end(&mut self, seat: &mut Seat<E, O>) -> Option<End>
         ensures machine { self.new.machine ≡ self.old.machine }
-        ensures none { result ≢ Next.Tasks }
-        ensures nothing { result ≡ Next.Nothing → seat.new ≡ seat.old }
-        ensures seat { (seat.new.parts ≡ seat.old.parts) × (seat.new.entries ≡ seat.old.entries) }
-        ensures over { (e : EndV) → result ≡ Next.Over e → (seat.new ≡ record seat.old { overs = 1 }) × (self.new.machine.end ≡ Some e) }
-        ensures ended { (e : EndV) → result ≡ Next.Over e → HasEnded (family B.Kinds.Kinds) B.Kinds.admits E.net e }
+        ensures nothing { IfNone result (seat.new ≡ seat.old) }
+        ensures over { IfSome result (λ e. (seat.new ≡ record seat.old { overs = 1 }) × (self.new.machine.end ≡ Some e)) }
+        ensures ended { IfSome result (HasEnded (family B.Kinds.Kinds) B.Kinds.admits E.net) }
     {
-        let Some(end) = self.machine.end() else {
-            return Next::Nothing;
-        };
+        let end = self.machine.end()?;
         let is_met = seat.meet_end(&mut self.overs, &mut self.over_count);
-        if is_met {
-            Next::Over(end)
-        } else {
-            Next::Nothing
-        }
+        if is_met { Some(end) } else { None }
     }
 
     /// Fills the hand, which holds only tasks that just went out again, up to `wanted`. If it is empty or
@@ -241,7 +233,10 @@ impl<B: Body, E: EntryLedger, O: Ledger, H: Keeper> Guarded<B, E, O, H> {
         ensures ended { (e : EndV) → result ≡ Next.Over e → HasEnded (family B.Kinds.Kinds) B.Kinds.admits E.net e }
     {
         if most == 0 {
-            return self.meet_end(seat);
+            return match self.meet_end(seat) {
+                Some(end) => Next::Over(end),
+                None => Next::Nothing,
+            };
         }
         if hand.len() > 0 {
             self.deal_more(hand, wanted);
@@ -312,8 +307,8 @@ impl<B: Body, E: EntryLedger, O: Ledger, H: Keeper> Guarded<B, E, O, H> {
         let answers = self.machine.ask_in_place(most);
         if answers == 0 {
             return match self.meet_end(seat) {
-                Next::Over(end) => Went::Over(end),
-                Next::Nothing | Next::Tasks => Went::Nowhere,
+                Some(end) => Went::Over(end),
+                None => Went::Nowhere,
             };
         }
         publish(&self.machine, &mut self.publisher, board);
@@ -403,9 +398,7 @@ impl<B: Body, E: EntryLedger, O: Ledger, H: Keeper> Guarded<B, E, O, H> {
         requires { board.now ≡ E.board }
         ensures seen { IfOk result (λ w. w ≡ record { board = E.board; entries = self.old.machine.history; phase = phase_of self.old.machine.end }) }
         ensures run { IfOk result (λ w. (M : State) × IsRun (family B.Kinds.Kinds) E.net w.entries M × MayStand (family B.Kinds.Kinds) E.net w.entries M self.old.machine.end) }
-        ensures made { IfOk result (λ _. self.new ≡ record self.old { watchers = self.old.watchers + 1 }) }
-        ensures full { IsErr result ↔ (self.old.watchers ≡ MOST_WATCHERS) }
-        ensures kept { OnErr result (self.new ≡ self.old) }
+        ensures counted { MatchResult result (λ _. (self.old.watchers ≢ MOST_WATCHERS) × (self.new ≡ record self.old { watchers = self.old.watchers + 1 })) (λ _. (self.old.watchers ≡ MOST_WATCHERS) × (self.new ≡ self.old)) }
     {
         self.machine.assure_faithful();
         self.publisher.watch(board)

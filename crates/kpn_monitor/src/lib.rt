@@ -26,6 +26,7 @@
 //! answer. At the end `Monitor::close` compares the seats with the books, and returns the history.
 #![tactic(auto)]
 
+mod booked;
 mod closed;
 mod giving;
 mod guarded;
@@ -37,6 +38,7 @@ mod places;
 mod resting;
 mod seat;
 
+pub use booked::BookedRun;
 pub use closed::{CloseFault, Closed, Unclosed};
 pub use guarded::{Next, Taken, Went};
 pub use hand::Hand;

@@ -7,12 +7,11 @@ ghost use Rattle.kpn_model.specs.Semantics.{State, IsRun};
 ghost use mathlib.Core.List.{IsPrefix};
 ghost use Rattle.kpn_watch.specs.declared.progress.Phase.TheVariants.{Running};
 ghost use Rattle.kpn_watch.specs.Shown.{shows};
-ghost use Rattle.kpn_body.specs.Input.{Input};
 ghost use Rattle.kpn_commit.specs.declared.outcome.Outcome.{Outcome as OutcomeV};
 ghost use Rattle.kpn_machine.specs.Commits.{entries_appended};
 ghost use Rattle.kpn_monitor.specs.Views.{AreNamesOf, Shares};
 ghost use Rattle.kpn_monitor.specs.Kept.{AddUp, FoundNothing, HasEnded, IsClosed, WasCommitted, WasTaken, WentRounds};
-ghost use Rattle.kpn_monitor.specs.Hands.{WereCommitted, answers_of};
+ghost use Rattle.kpn_monitor.specs.Hands.{Receives, WereCommitted, answers_of};
 
 use crate::closed::{Closed, Unclosed};
 use crate::guarded::{Guarded, Next, Taken, Wakes, Went};
@@ -103,10 +102,7 @@ impl<B: Body, E: EntryLedger, O: Ledger, H: Keeper> Monitor<B, E, O, H> {
     /// of overs to 1, and wakes resting threads. Waits for one of these. A dropped task leaves its process
     /// out for good.
     pub fn take<R: Wait>(&self, rt: &R, seat: &mut Seat<E, O>) -> Taken<B>
-        ensures task { (t : Input) → result ≡ Taken.Task t → seat.new ≡ seat.old }
-        ensures over { (e : EndV) → result ≡ Taken.Over e → seat.new ≡ record seat.old { overs = 1 } }
-        ensures taken { (t : Input) → result ≡ Taken.Task t → WasTaken (family B.Kinds.Kinds) B.Kinds.admits E.net t }
-        ensures ended { (e : EndV) → result ≡ Taken.Over e → HasEnded (family B.Kinds.Kinds) B.Kinds.admits E.net e }
+        ensures { Receives (family B.Kinds.Kinds) B.Kinds.admits E.net seat.old seat.new result }
     {
         let mut guarded = self.state.lock(rt);
         for _ in rt.forever() {

@@ -4,7 +4,7 @@ ghost use Rattle.kpn_model.specs.Families.{family};
 ghost use Rattle.kpn_body.specs.Input.{Input};
 ghost use Rattle.kpn_commit.specs.declared.outcome.Outcome.{Outcome as OutcomeV};
 ghost use Rattle.kpn_machine.specs.Commits.{CommitsOn};
-ghost use Rattle.kpn_monitor.specs.Places.{HasFirst};
+ghost use Rattle.kpn_monitor.specs.Places.{CallsNext, HasFirst};
 
 use kpn_body::{Body, Finished, Task};
 use kpn_machine::{Machine, Outcome};
@@ -59,9 +59,7 @@ impl<B: Body> Places<B> {
     /// Calls the first task not called yet, and returns the number of its process.
     #[inline(always)]
     pub(crate) fn call(&mut self) -> Option<usize>
-        ensures none { IfNone result ((self.old.called ≡ length self.old.tasks) × (self.new ≡ self.old)) }
-        ensures some { IfSome result (λ p. (i : Input) × (slice_get self.old.tasks self.old.called ≡ Some i) × (i.process ≡ p)) }
-        ensures called { IfSome result (λ _. (self.new ≡ record self.old { called = self.old.called + 1 }) × (self.old.called < length self.old.tasks)) }
+        ensures { CallsNext self.old result self.new }
     {
         let place = self.answers.len();
         if place >= self.places.len() {

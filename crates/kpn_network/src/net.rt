@@ -105,6 +105,20 @@ impl<K: Kinds> Net<K> {
         let _ = &self.processes;
     }
 
+    /// Returns the processes, in order.
+    pub fn process_list(&self) -> &[Process]
+        ensures { result.now ≡ self.now.processes }
+    {
+        self.processes.as_slice()
+    }
+
+    /// Returns the channels, in order.
+    pub fn channel_list(&self) -> &[Channel]
+        ensures { result.now ≡ self.now.channels }
+    {
+        self.channels.as_slice()
+    }
+
     /// Returns the number of channels, 0 to 256.
     pub fn channels(&self) -> usize
         ensures { result ≡ length self.now.channels }

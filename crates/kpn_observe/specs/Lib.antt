@@ -1,1 +1,1 @@
-pub mod WatchedReports
+pub mod WatchedFaults

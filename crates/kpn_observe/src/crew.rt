@@ -1,24 +1,21 @@
 //! Runs by threads of the caller's own.
-ghost use Rattle.std.specs.Prelude.{◌≡◌, ◌≢◌, ◌+◌, ◌<◌, ◌≤◌, [], length, map, vec_capacity, Ok, IfOk, IfErr, IfNone, MatchResult, OnOk};
+ghost use Rattle.std.specs.Prelude.{◌≡◌, ◌+◌, ◌<◌, ◌≤◌, [], length, map, vec_capacity, Ok, IfOk, IfErr, IfNone, MatchResult, OnOk};
 ghost use Rattle.std.specs.List.{sum_by};
 ghost use Rattle.kpn_model.specs.Families.{family};
-ghost use Rattle.kpn_model.specs.declared.history.End.{End as EndV};
-ghost use Rattle.kpn_body.specs.Input.{Input};
 ghost use Rattle.kpn_machine.specs.Commits.{entries_appended};
-ghost use Rattle.kpn_machine.specs.Opening.{cards_of, IsOpenFault};
-ghost use Rattle.kpn_laws.specs.RoomOfRun.{TakesLeastRoom};
-ghost use Rattle.kpn_laws.specs.StreamsOfRun.{ApproachLeastSolution};
+ghost use Rattle.kpn_machine.specs.Opening.{cards_of};
 ghost use Rattle.kpn_monitor.specs.Views.{AreNamesOf, Shares};
-ghost use Rattle.kpn_monitor.specs.Kept.{HasEnded, IsClosed, WasCommitted, WasTaken};
-ghost use Rattle.kpn_run.specs.Runs.{IsComparable, StaysWithinCapacities};
-ghost use Rattle.kpn_observe.specs.WatchedReports.{EndSparesBudget, LacksMemory};
+ghost use Rattle.kpn_monitor.specs.Kept.{IsClosed, WasCommitted};
+ghost use Rattle.kpn_monitor.specs.Hands.{Receives};
+ghost use Rattle.kpn_run.specs.Runs.{IsWatchedRun};
+ghost use Rattle.kpn_run.specs.Refusals.{IsHandedBack, LacksMemory};
 
-use crate::running::told_by_laws;
-use crate::watched::WatchedRun;
+use crate::WatchedRun;
 use kpn_body::{Body, Finished};
-use kpn_machine::{OpenFault, OpenRefused, Outcome, Stranger};
+use kpn_machine::{OpenRefused, Outcome, Stranger};
 use kpn_monitor::{EntryLedger, Monitor, Opening, Seat, Taken};
 use kpn_network::Net;
+use kpn_run::laws::told_by_laws;
 use kpn_run::starting::{no_memory, opening_of};
 use kpn_run::{Gate, work_with};
 use kpn_state::Wide;
@@ -75,10 +72,7 @@ impl<E: EntryLedger, O: Ledger> CrewSeat<E, O> {
     /// }
     /// ```
     pub fn take<B: Body, R: Wait>(&mut self, rt: &R, monitor: &Monitor<B, E, O>) -> Taken<B>
-        ensures task { (t : Input) → result ≡ Taken.Task t → self.new ≡ self.old }
-        ensures over { (e : EndV) → result ≡ Taken.Over e → self.new ≡ record self.old { overs = 1 } }
-        ensures taken { (t : Input) → result ≡ Taken.Task t → WasTaken (family B.Kinds.Kinds) B.Kinds.admits E.net t }
-        ensures ended { (e : EndV) → result ≡ Taken.Over e → HasEnded (family B.Kinds.Kinds) B.Kinds.admits E.net e }
+        ensures { Receives (family B.Kinds.Kinds) B.Kinds.admits E.net self.old self.new result }
     {
         monitor.take(rt, &mut self.seat)
     }
@@ -168,8 +162,8 @@ pub trait Crew<B: Body>: Sync {
 /// Runs a network from its start with `seats` threads that do what `crew` says, and a body for each process,
 /// in order. The calling thread is one, and does the work of each that can't be started.
 ///
-/// The crew may take tasks, ask bodies and commit answers in any way, pause, and leave early. The history
-/// keeps all promises of [`run_watched`](crate::run_watched) (Kahn 1974, Parks 1995).
+/// The crew may take tasks, ask bodies and commit answers in any way, pause, and leave early. The run keeps
+/// all promises of [`run_watched`](crate::run_watched) (`run`; Kahn 1974, Parks 1995).
 ///
 /// Errors: the bodies are not one for each process, with its card (`Bodies`, `Card`): returns the network and
 /// bodies unchanged. Out of memory (`Memory`): returns the network and bodies with the same cards. Nothing
@@ -188,17 +182,9 @@ pub fn run_by_crew<B: Body, R: Threads + Sync, C: Crew<B>>(
     seats: u16,
     crew: &C,
 ) -> Result<WatchedRun<B::Kinds>, OpenRefused<B>>
-    ensures closed { IfOk result (IsClosed (family B.Kinds.Kinds) B.Kinds.admits net) }
-    ensures within { IfOk result (λ r. StaysWithinCapacities (family B.Kinds.Kinds) net r.machine.history) }
-    ensures budget { IfOk result (λ r. EndSparesBudget (family B.Kinds.Kinds) net r.machine.end) }
-    ensures comparable { IfOk result (λ r. IsComparable (family B.Kinds.Kinds) net r.machine.history) }
-    ensures room { IfOk result (λ r. TakesLeastRoom (family B.Kinds.Kinds) net r.machine.history r.machine.state) }
-    ensures streams { IfOk result (λ r. ApproachLeastSolution (family B.Kinds.Kinds) net r.machine.history r.machine.state) }
+    ensures run { IfOk result (IsWatchedRun (family B.Kinds.Kinds) B.Kinds.admits net) }
     ensures cards { OnOk result (map B.card bodies.items ≡ cards_of net.processes) }
-    ensures net_back { IfErr result (λ refused. refused.net ≡ net) }
-    ensures cards_back { IfErr result (λ refused. map B.card refused.bodies.items ≡ map B.card bodies.items) }
-    ensures bodies_back { IfErr result (λ refused. refused.fault ≢ OpenFault.Memory → refused.bodies.items ≡ bodies.items) }
-    ensures fault { IfErr result (λ refused. IsOpenFault net.processes (map B.card bodies.items) refused.fault) }
+    ensures refused { IfErr result (IsHandedBack B.card net bodies.items) }
 {
     let opening = opening_of::<B, Wide>(alloc, net, bodies)?;
     let ran = run_named::<B, Brand, Brand, R, C>(rt, alloc, opening, seats, crew)?;
@@ -222,7 +208,7 @@ fn run_named<
 ) -> Result<WatchedRun<B::Kinds>, OpenRefused<B>>
     requires names { AreNamesOf E.EntryLedger O.Ledger opening }
     ensures closed { IfOk result (IsClosed (family B.Kinds.Kinds) B.Kinds.admits E.net) }
-    ensures refused { IfErr result (λ refused. LacksMemory B.card opening.machine.network refused.net refused.bodies.items refused.fault) }
+    ensures refused { IfErr result (LacksMemory B.card opening.machine.network) }
 {
     let count = usize::from(seats);
     let Ok(crewed) = Vec::with_capacity(alloc, count) else {
@@ -288,7 +274,7 @@ fn run_seated<
     let mut seats = room;
     gather(rest, crewed, &mut seats);
     match monitor.close(seats) {
-        Ok(closed) => WatchedRun::of(closed),
+        Ok(closed) => closed.into_run(),
         Err(_) => unreachable!(),
     }
 }

@@ -25,13 +25,12 @@ mod crew;
 mod observer;
 mod reporting;
 mod running;
-mod watched;
 
 pub use crew::{Crew, CrewSeat, run_by_crew};
 pub use kpn_machine::{OpenFault, OpenRefused, Outcome, Stranger};
-pub use kpn_monitor::{EntryLedger, Monitor, Taken};
+pub use kpn_monitor::{BookedRun as WatchedRun, EntryLedger, Monitor, Taken};
+pub use kpn_run::RunFault;
 pub use kpn_watch::{Phase, Progress};
 pub use observer::{Observer, Wish};
 pub use reporting::chronicle_report;
 pub use running::{WatchedFault, run_watched, run_watched_with_keeper};
-pub use watched::WatchedRun;

@@ -10,16 +10,16 @@ use Rattle.kpn_model.specs.Network.{Network}
 use Rattle.kpn_model.specs.Waits.{is_on_cycle}
 use Rattle.kpn_verdict.specs.VerdictText.{verdict_words}
 
-abbrev pub end_text : End → List ℕ
-end_text Terminated = codes "terminated"
-end_text Deadlock = codes "deadlock"
-end_text Ceiling = codes "a channel at the ceiling would have to grow"
-end_text Budget = codes "budget spent"
-end_text Memory = codes "memory refused"
+abbrev pub end_in_words : End → List ℕ
+end_in_words Terminated = codes "terminated"
+end_in_words Deadlock = codes "deadlock"
+end_in_words Ceiling = codes "a channel at the ceiling would have to grow"
+end_in_words Budget = codes "budget spent"
+end_in_words Memory = codes "memory refused"
 
 -- the end of the title line, after the verdict
 abbrev pub end_part : End → List ℕ
-end_part end = codes " (" ++ end_text end ++ codes ")\";\n"
+end_part end = codes " (" ++ end_in_words end ++ codes ")\";\n"
 
 module _ (net : Network) (places : List Place) where
   -- the first of n processes that waits for itself, directly or indirectly

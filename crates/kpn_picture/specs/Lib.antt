@@ -1,3 +1,4 @@
 pub mod Titles
 pub mod Caption
+pub mod Edges
 pub mod Picture

@@ -1,6 +1,6 @@
 //! The title of the picture of a run.
 ghost use Rattle.std.specs.Prelude.{◌≡◌, ◌++◌, OnOk, string_bytes};
-ghost use Rattle.kpn_picture.specs.Caption.{caption, end_part, end_text, verdict_at};
+ghost use Rattle.kpn_picture.specs.Caption.{caption, end_part, end_in_words, verdict_at};
 
 use kpn_model::{End, Kinds, Place, Verdict};
 use kpn_network::Net;
@@ -8,8 +8,8 @@ use kpn_verdict::{push_verdict, verdict_of};
 use std::alloc::AllocError;
 use std::fmt::Write;
 
-fn end_text(end: End) -> &'static str
-    ensures { result.now ≡ end_text end }
+fn end_in_words(end: End) -> &'static str
+    ensures { result.now ≡ end_in_words end }
 {
     match end {
         End::Terminated => "terminated",
@@ -23,7 +23,7 @@ fn end_text(end: End) -> &'static str
 fn push_end(out: &mut String, end: End) -> Result<(), AllocError>
     ensures { OnOk result (string_bytes out.new ≡ string_bytes out.old ++ end_part end) }
 {
-    let text = end_text(end);
+    let text = end_in_words(end);
     write!(out, " ({text})\";\n")
 }
 

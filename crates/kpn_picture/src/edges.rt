@@ -1,12 +1,12 @@
 //! Channels, as edges.
-ghost use Rattle.std.specs.Prelude.{◌≡◌, ◌++◌, ◌<◌, None, OnOk, length, string_bytes, if◌then◌else◌};
+ghost use Rattle.std.specs.Prelude.{◌≡◌, ◌++◌, None, OnOk, length, string_bytes, if◌then◌else◌};
 ghost use Rattle.kpn_model.specs.Network.{out_of};
 ghost use Rattle.kpn_model.specs.texts.Reports.{lines_upto};
-ghost use Rattle.kpn_picture.specs.Picture.{arrow, capacity_text, capacity_part, held_part, held_tokens, last_capacity, port_part, has_rows, edge_attributes, edge_line, form_of, label_part};
+ghost use Rattle.kpn_picture.specs.Picture.{arrow, capacity_text, capacity_part, held_part, has_name_of_point, held_tokens, last_capacity, port_part, has_rows, edge_attributes, edge_line, form_of, label_part};
 
 use crate::looks::{edge_look, link_part, row_part, sort_part};
 use crate::picture::Left;
-use crate::points::{has_name_of_point, is_point};
+use crate::points::{has_name_of, is_point};
 use crate::rows::{has_rows, stays};
 use crate::titles::Titled;
 use kpn_model::{Kinds, Token};
@@ -15,6 +15,7 @@ use kpn_network::names::{channel_name, process_name};
 use kpn_verdict::is_jammed;
 use std::alloc::AllocError;
 use std::fmt::Write;
+use std::marker::Model;
 
 fn push_capacities(out: &mut String, at_first: usize, last: usize) -> Result<(), AllocError>
     ensures { OnOk result (string_bytes out.new ≡ string_bytes out.old ++ capacity_text at_first last) }
@@ -74,28 +75,6 @@ fn push_arrow(out: &mut String, writer: &str, reader: &str) -> Result<(), AllocE
     write!(out, "  \"{writer}\" -> \"{reader}\" [label=\"")
 }
 
-/// Appends the label of a channel, if it has one.
-fn push_label<K: Kinds>(
-    out: &mut String,
-    net: &Net<K>,
-    left: &Left<'_>,
-    has_label: bool,
-    c: usize,
-) -> Result<(), AllocError>
-    requires { c < length net.now.channels }
-    ensures { OnOk result (string_bytes out.new ≡ string_bytes out.old ++ label_part net.now left.now.capacities.now left.now.rests.now has_label c) }
-{
-    if !has_label {
-        return Ok(());
-    }
-    let capacity = net.capacity(c);
-    out.push_str(channel_name(net, c))?;
-    out.push_str(sort_part(net.sort(c)))?;
-    push_capacity(out, capacity, last_capacity(left, c, capacity))?;
-    push_held(out, held_tokens(left, c, net.tokens(c)))?;
-    Ok(())
-}
-
 /// Does nothing unless the process has a second port.
 fn push_port(
     out: &mut String,
@@ -132,62 +111,97 @@ pub(crate) struct EdgeForm {
     has_label: bool,
 }
 
-fn form_of<K: Titled>(net: &Net<K>, has_rows: bool, c: usize) -> EdgeForm
-    requires { c < length net.now.channels }
-    ensures { result ≡ form_of net.now K.title has_rows c }
-{
-    let ends = net.ends(c);
-    EdgeForm {
-        has_rows,
-        from_point: is_point(net, ends.writer),
-        to_point: is_point(net, ends.reader),
-        has_label: !has_name_of_point(net, c),
+/// A channel of a network, and how a run left the network.
+#[derive(Drop)]
+struct Edge<'a, K: Kinds> {
+    net: &'a Net<K>,
+    left: Left<'a>,
+    channel: usize,
+}
+
+impl<'a, K: Kinds> Model for Edge<'a, K> {
+    ghost use Rattle.std.specs.Prelude.{◌<◌, length};
+    ghost use Rattle.kpn_picture.specs.Edges.{EdgeView};
+
+    ghost Value = { EdgeView };
+
+    ghost view = { λ e. record { net = e.net.now; places = e.left.places.now; capacities = e.left.capacities.now; rests = e.left.rests.now; channel = e.channel } };
+
+    ghost invariant = { λ e. e.channel < length e.net.now.channels };
+}
+
+impl<'a, K: Kinds> Edge<'a, K> {
+    /// Appends the label of the channel, if it has one.
+    fn push_label(&self, out: &mut String, has_label: bool) -> Result<(), AllocError>
+        ensures { OnOk result (string_bytes out.new ≡ string_bytes out.old ++ label_part self.now.net self.now.capacities self.now.rests has_label self.now.channel) }
+    {
+        if !has_label {
+            return Ok(());
+        }
+        let c = self.channel;
+        let capacity = self.net.capacity(c);
+        out.push_str(channel_name(self.net, c))?;
+        out.push_str(sort_part(self.net.sort(c)))?;
+        push_capacity(out, capacity, last_capacity(&self.left, c, capacity))?;
+        push_held(out, held_tokens(&self.left, c, self.net.tokens(c)))?;
+        Ok(())
+    }
+
+    /// Appends what follows the label of the channel.
+    fn push_attributes(&self, out: &mut String, form: EdgeForm) -> Result<(), AllocError>
+        ensures { OnOk result (string_bytes out.new ≡ string_bytes out.old ++ edge_attributes self.now.net self.now.places self.now.capacities form self.now.channel) }
+    {
+        let c = self.channel;
+        let ends = self.net.ends(c);
+        let at_first = self.net.capacity(c);
+        let has_grown = at_first != last_capacity(&self.left, c, at_first);
+        let second = second_output(self.net, form.from_point, ends.writer);
+        out.push_str(edge_look(is_jammed(self.net, self.left.places, c), has_grown))?;
+        push_port(out, "tail", ends.out, second)?;
+        push_port(out, "head", ends.input, self.net.in_of(ends.reader, 1))?;
+        out.push_str(link_part(form.from_point, form.to_point))?;
+        out.push_str(row_part(form.has_rows, stays(ends)))?;
+        Ok(())
     }
 }
 
-/// Appends what follows the label of a channel.
-fn push_attributes<K: Kinds>(
-    out: &mut String,
-    net: &Net<K>,
-    left: &Left<'_>,
-    form: EdgeForm,
-    c: usize,
-) -> Result<(), AllocError>
-    requires { c < length net.now.channels }
-    ensures { OnOk result (string_bytes out.new ≡ string_bytes out.old ++ edge_attributes net.now left.now.places.now left.now.capacities.now form c) }
-{
-    let ends = net.ends(c);
-    let has_grown = net.capacity(c) != last_capacity(left, c, net.capacity(c));
-    let second = second_output(net, form.from_point, ends.writer);
-    out.push_str(edge_look(is_jammed(net, left.places, c), has_grown))?;
-    push_port(out, "tail", ends.out, second)?;
-    push_port(out, "head", ends.input, net.in_of(ends.reader, 1))?;
-    out.push_str(link_part(form.from_point, form.to_point))?;
-    out.push_str(row_part(form.has_rows, stays(ends)))?;
-    Ok(())
-}
+impl<'a, K: Titled> Edge<'a, K> {
+    /// Whether the channel has the name of the point that it leads from or to.
+    fn has_name_of_point(&self) -> bool
+        ensures { result ≡ has_name_of_point self.now.net K.title self.now.channel }
+    {
+        let ends = self.net.ends(self.channel);
+        is_point(self.net, ends.writer) && has_name_of(self.net, ends.writer, self.channel)
+            || is_point(self.net, ends.reader) && has_name_of(self.net, ends.reader, self.channel)
+    }
 
-/// Appends a channel, as an edge from its writer to its reader.
-fn push_edge<K: Titled>(
-    out: &mut String,
-    net: &Net<K>,
-    left: &Left<'_>,
-    has_rows: bool,
-    c: usize,
-) -> Result<(), AllocError>
-    requires { c < length net.now.channels }
-    ensures { OnOk result (string_bytes out.new ≡ string_bytes out.old ++ edge_line net.now left.now.places.now left.now.capacities.now left.now.rests.now K.title has_rows c) }
-{
-    let ends = net.ends(c);
-    let form = form_of(net, has_rows, c);
-    let writer = process_name(net, ends.writer);
-    let reader = process_name(net, ends.reader);
-    push_arrow(out, writer, reader)?;
-    push_label(out, net, left, form.has_label, c)?;
-    out.push_str("\"")?;
-    push_attributes(out, net, left, form, c)?;
-    out.push_str("];\n")?;
-    Ok(())
+    fn form(&self, has_rows: bool) -> EdgeForm
+        ensures { result ≡ form_of self.now.net K.title has_rows self.now.channel }
+    {
+        let ends = self.net.ends(self.channel);
+        EdgeForm {
+            has_rows,
+            from_point: is_point(self.net, ends.writer),
+            to_point: is_point(self.net, ends.reader),
+            has_label: !self.has_name_of_point(),
+        }
+    }
+
+    /// Appends the channel, as an edge from its writer to its reader.
+    fn push(&self, out: &mut String, has_rows: bool) -> Result<(), AllocError>
+        ensures { OnOk result (string_bytes out.new ≡ string_bytes out.old ++ edge_line self.now.net self.now.places self.now.capacities self.now.rests K.title has_rows self.now.channel) }
+    {
+        let ends = self.net.ends(self.channel);
+        let form = self.form(has_rows);
+        let writer = process_name(self.net, ends.writer);
+        let reader = process_name(self.net, ends.reader);
+        push_arrow(out, writer, reader)?;
+        self.push_label(out, form.has_label)?;
+        out.push_str("\"")?;
+        self.push_attributes(out, form)?;
+        out.push_str("];\n")?;
+        Ok(())
+    }
 }
 
 pub(crate) fn push_channels<K: Titled>(
@@ -199,7 +213,12 @@ pub(crate) fn push_channels<K: Titled>(
 {
     let has_rows = has_rows(net);
     for c in 0..net.channels() {
-        push_edge(out, net, left, has_rows, c)?;
+        let edge = Edge {
+            net,
+            left: *left,
+            channel: c,
+        };
+        edge.push(out, has_rows)?;
     }
     Ok(())
 }

@@ -13,6 +13,7 @@ mod titles;
 
 pub use kpn_verdict::is_jammed;
 pub use looks::Direction;
+pub use nodes::below;
 pub use picture::{Left, picture_of};
 pub use styles::Style;
 pub use titles::{Title, Titled, TitledFilters};

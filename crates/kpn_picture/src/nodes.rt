@@ -16,8 +16,9 @@ use kpn_verdict::{is_on_cycle, place_at};
 use std::alloc::AllocError;
 use std::fmt::Write;
 
-/// Returns the argument after those of a card's title: how many of these are below 0.
-fn below(card: &Card, arity: usize) -> u64
+/// Returns the argument after the `arity` arguments of a card's title: how many of these, from the first on, are
+/// below 0.
+pub fn below(card: &Card, arity: usize) -> u64
     ensures { result ≡ below card.now arity }
 {
     if arity < 3 { card.args[arity] } else { 0 }
@@ -25,10 +26,9 @@ fn below(card: &Card, arity: usize) -> u64
 
 /// Appends argument `k` of a card, if its title has it.
 fn push_argument(out: &mut String, card: &Card, arity: usize, k: usize) -> Result<(), AllocError>
-    requires { k < 3 }
     ensures { OnOk result (string_bytes out.new ≡ string_bytes out.old ++ argument_part arity card.now k) }
 {
-    let argument = card.args[k];
+    let argument = card.args.get(k).copied().unwrap_or(0);
     if k >= arity {
         Ok(())
     } else if (k as u64) < below(card, arity) {

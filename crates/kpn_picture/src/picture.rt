@@ -8,7 +8,7 @@ use crate::looks::{Direction, rankdir};
 use crate::nodes::push_processes;
 use crate::styles::Style;
 use crate::titles::Titled;
-use kpn_model::{End, Kinds, Listed, Place, Text, Token};
+use kpn_model::{End, Listed, Place, Text, Token};
 use kpn_network::Net;
 use std::alloc::{AllocError, Global};
 
@@ -28,15 +28,7 @@ const LOOK: &str = "\
   edge [color=\"#44546a\", fontcolor=\"#44546a\", fontname=\"Helvetica\", fontsize=11, labelfontsize=9, labeldistance=1.5, labelangle=25];
 ";
 
-/// Ghost lemma: the names of a network need no escapes between quotes.
-fn names_are_plain<K: Kinds>(net: &Net<K>)
-    ensures processes { All (λ p. IsPlain p.name) net.now.processes }
-    ensures channels { All (λ c. IsPlain c.name) net.now.channels }
-{
-    net.processes();
-}
-
-/// Ghost lemma: titles, as they are drawn, need no escapes either.
+/// Ghost lemma: titles, as they are drawn, need no escapes between quotes.
 fn titles_are_plain(titles: &[Text])
     ensures { All (λ title. IsPlain (title_text title)) titles.now }
 {
@@ -76,7 +68,7 @@ pub fn picture_of<K: Titled>(
     ensures titles { All (λ title. IsPlain (title_text title)) style.now.titles.now }
     ensures text { IfOk result (λ text. string_bytes text ≡ picture style.now.direction style.now.titles.now K.title net.now end left.now.places.now left.now.capacities.now left.now.rests.now) }
 {
-    names_are_plain(net);
+    net.assure_valid();
     titles_are_plain(style.titles);
     let mut out = head(alloc, style.direction)?;
     push_caption(&mut out, net, left.places, end)?;

@@ -2,7 +2,7 @@
 ghost use Rattle.std.specs.Prelude.{◌≡◌, ◌<◌, ◌++◌, false, OnOk, length, string_bytes};
 ghost use Rattle.std.specs.Option.{option_map_or};
 ghost use Rattle.kpn_picture.specs.Titles.{name_of};
-ghost use Rattle.kpn_picture.specs.Picture.{has_name_of, has_name_of_point, is_copy, is_point, point_line, point_opening};
+ghost use Rattle.kpn_picture.specs.Picture.{has_name_of, is_copy, is_point, point_line, point_opening};
 
 use crate::looks::push_closing;
 use crate::titles::Titled;
@@ -40,17 +40,7 @@ fn names_one<K: Kinds>(net: &Net<K>, p: usize, channel: Option<usize>) -> bool
     }
 }
 
-/// Whether a channel has the name of the point that it leads from or to.
-pub(crate) fn has_name_of_point<K: Titled>(net: &Net<K>, c: usize) -> bool
-    requires { c < length net.now.channels }
-    ensures { result ≡ has_name_of_point net.now K.title c }
-{
-    let ends = net.ends(c);
-    is_point(net, ends.writer) && has_name_of(net, ends.writer, c)
-        || is_point(net, ends.reader) && has_name_of(net, ends.reader, c)
-}
-
-fn has_name_of<K: Kinds>(net: &Net<K>, p: usize, c: usize) -> bool
+pub(crate) fn has_name_of<K: Kinds>(net: &Net<K>, p: usize, c: usize) -> bool
     ensures { result ≡ has_name_of net.now p c }
 {
     process_name(net, p) == channel_name(net, c)

@@ -55,9 +55,10 @@ fn counted_channels<K: Kinds>(
     net.assure_valid();
     let mut channel_counts = Vec::with_capacity(alloc, net.channels())?;
     for c in 0..net.channels() {
+        let (put, taken) = tallied.put_and_taken(c);
         channel_counts.push(ChannelCounts {
-            put: tallied.puts(c) as usize,
-            taken: tallied.takes(c) as usize,
+            put: put as usize,
+            taken: taken as usize,
             capacity: net.capacity(c),
         })?;
     }

@@ -1,5 +1,5 @@
 //! The lines of a report.
-ghost use Rattle.std.specs.Prelude.{◌≡◌, ◌++◌, ◌<◌, OnOk, IfOk, length, string_bytes};
+ghost use Rattle.std.specs.Prelude.{◌≡◌, ◌++◌, OnOk, IfOk, length, string_bytes};
 ghost use Rattle.std.specs.List.{flat_map};
 ghost use Rattle.kpn_model.specs.texts.Reports.{lines_upto};
 ghost use Rattle.kpn_report.specs.Text.{process_line, channel_line, growth_line, token_part, end_text, end_line, stream_line};
@@ -7,7 +7,7 @@ ghost use Rattle.kpn_report.specs.Text.{process_line, channel_line, growth_line,
 use crate::channel_counts::ChannelCounts;
 use kpn_model::{End, Kinds, Place, Token};
 use kpn_network::Net;
-use kpn_network::names::channel_name;
+use kpn_network::names::{channel_name, process_name};
 use std::alloc::{AllocError, Global};
 use std::fmt::Write;
 
@@ -19,10 +19,9 @@ fn push_process<K: Kinds>(
     steps: &[u64],
     p: usize,
 ) -> Result<(), AllocError>
-    requires { p < length net.now.processes }
     ensures { OnOk result (string_bytes out.new ≡ string_bytes out.old ++ process_line net.now places.now steps.now p) }
 {
-    let name = net.process_name(p);
+    let name = process_name(net, p);
     let steps = steps.get(p).copied().unwrap_or(0);
     match places.get(p).copied().unwrap_or(Place::Stopped) {
         Place::Stopped => write!(out, "process {name} stopped steps {steps}\n"),

@@ -49,20 +49,13 @@ impl Tallied {
         self.steps[process]
     }
 
-    /// Returns the number of tokens put on a channel.
-    pub(crate) fn puts(&self, channel: usize) -> u64
+    /// Returns the numbers of tokens put on a channel and taken from it.
+    pub(crate) fn put_and_taken(&self, channel: usize) -> (u64, u64)
         requires { channel < MOST_CHANNELS }
-        ensures { result ≡ length (put_on self.now.entries channel) }
+        ensures put { result.0 ≡ length (put_on self.now.entries channel) }
+        ensures taken { result.1 ≡ length (taken self.now.entries channel) }
     {
-        self.puts[channel]
-    }
-
-    /// Returns the number of tokens taken from a channel.
-    pub(crate) fn takes(&self, channel: usize) -> u64
-        requires { channel < MOST_CHANNELS }
-        ensures { result ≡ length (taken self.now.entries channel) }
-    {
-        self.takes[channel]
+        (self.puts[channel], self.takes[channel])
     }
 }
 

@@ -9,7 +9,7 @@ use Rattle.kpn_model.specs.Endings.{MayEnd, MayStand}
 use Rattle.kpn_machine.specs.MachineView.{IsFaithful}
 use Rattle.kpn_run.specs.Runs.{FinishView, IsFinish}
 
-justified_end : (kinds : Family) (net : Network) (E : List Entry) (M : State) (o : Option End) (e : End) → o ≡ Some e → MayStand kinds net E M o → MayEnd kinds net E M e
+pub justified_end : (kinds : Family) (net : Network) (E : List Entry) (M : State) (o : Option End) (e : End) → o ≡ Some e → MayStand kinds net E M o → MayEnd kinds net E M e
 justified_end kinds net E M o e is h = subst (MayStand kinds net E M) is h
 
 pub finish_of : (kinds : Family) (admits : Admits) (f : FinishView) → IsFaithful kinds admits f.machine → f.machine.end ≡ Some f.cause → length f.machine.history ≡ f.receipts → IsFinish kinds f.machine.network f

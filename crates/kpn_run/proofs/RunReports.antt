@@ -18,8 +18,8 @@ use Rattle.kpn_state.proofs.Placed.{idle_at}
 use Rattle.kpn_machine.specs.MachineView.{MachineView, IsFaithful}
 use Rattle.kpn_report.specs.declared.detail.Detail.{Detail}
 use Rattle.kpn_report.specs.Reported.{IsReport}
-use Rattle.kpn_run.specs.Runs.{FinishView, IsFinish}
 use Rattle.kpn_run.specs.Reports.{IsEveryRuns, IsOutcome, TellsLeastSolution}
+use Rattle.kpn_run.proofs.Finishes.{justified_end}
 
 not_budget : (cause : End) → has_report cause ≡ true → cause ≢ Budget
 not_budget Terminated has e = cc
@@ -86,12 +86,15 @@ module _ (kinds : Family) (net : Network) (E : List Entry) (M : State) (cause : 
       )
 
 -- a run that came to its own end is over
-pub over_of : (kinds : Family) (net : Network) (cause : End) (E : List Entry) (M : State) → has_report cause ≡ true → MayEnd kinds net E M cause → IsOver kinds net M cause
+over_of : (kinds : Family) (net : Network) (cause : End) (E : List Entry) (M : State) → has_report cause ≡ true → MayEnd kinds net E M cause → IsOver kinds net M cause
 over_of kinds net Terminated E M has justified = justified
 over_of kinds net Deadlock E M has justified = justified
 over_of kinds net Ceiling E M has justified = justified
 over_of kinds net Budget E M has justified = cc
 over_of kinds net Memory E M has justified = cc
 
-pub final_of : (kinds : Family) (net : Network) (f : FinishView) → IsFinish kinds net f → has_report f.cause ≡ true → IsFinal kinds net f.machine.history f.machine.state f.cause
-final_of kinds net f finish has = record { run = finish.run; over = over_of kinds net f.cause f.machine.history f.machine.state has finish.justified }
+-- what a machine left that came to its own end is a run that is over
+pub is_final : (kinds : Family) (admits : Admits) (s : MachineView) (cause : End) → IsFaithful kinds admits s → s.end ≡ Some cause → has_report cause ≡ true
+    → IsFinal kinds s.network s.history s.state cause
+is_final kinds admits s cause faithful ended has =
+    record { run = faithful.run; over = over_of kinds s.network cause s.history s.state has (justified_end kinds s.network s.history s.state s.end cause ended faithful.justified) }

@@ -1,27 +1,64 @@
--- What a run that did not begin returns.
-use Rattle.std.specs.Prelude.{◌≡◌, ◌≢◌, List, map}
+-- What a run that failed returns.
+use Rattle.std.specs.Prelude.{◌≡◌, ◌≢◌, ◌<◌, ◌⊎◌, ⊤, ℕ, List, Result, Err, IfOk, IfErr, OnOk, map}
 use Rattle.kpn_model.specs.declared.kinds.Card.{Card}
-use Rattle.kpn_model.specs.Network.{Network}
-use Rattle.kpn_machine.specs.declared.opening.OpenFault.{OpenFault}
-use Rattle.kpn_machine.specs.declared.opening.OpenFault.TheVariants.{Memory}
+use Rattle.kpn_model.specs.Network.{Family, Network}
+use Rattle.kpn_machine.specs.declared.machine.OpenRefused.{OpenRefused}
+use Rattle.kpn_machine.specs.declared.opening.OpenFault.TheVariants.{Memory as NoMemory}
 use Rattle.kpn_machine.specs.Opening.{cards_of, IsOpenFault}
-use Rattle.kpn_run.specs.declared.starting.Failure.{Failure}
-use Rattle.kpn_run.specs.declared.starting.Failure.TheVariants.{NotRun, Lost}
+use Rattle.kpn_monitor.specs.Views.{Unopened}
+use Rattle.kpn_run.specs.Runs.{FinishView, IsFinishedRun}
+use Rattle.kpn_run.specs.declared.fault.Failure.{Failure}
+use Rattle.kpn_run.specs.declared.fault.Failure.TheVariants.{NotRun, Lost as Refused}
+use Rattle.kpn_run.specs.declared.fault.RunFault.{RunFault}
+use Rattle.kpn_run.specs.declared.fault.RunFault.TheVariants.{Workers, Open, Memory, Lost}
 
 -- this network and these bodies are returned, with the first fault; out of memory, other bodies with the same
 -- cards
-pub record IsHandedBack {B : Type 0} (card : B → Card) (net : Network) (bodies : List B) (same : Network) (back : List B) (fault : OpenFault) : Type 0 where
-  pub net_is : same ≡ net
-  pub cards_are : map card back ≡ map card bodies
-  pub bodies_are : fault ≢ Memory → back ≡ bodies
-  pub applies : IsOpenFault net.processes (map card bodies) fault
+pub record IsHandedBack {B K : Type 0} (card : B → Card) (net : Network) (bodies : List B) (refused : OpenRefused B K) : Type 0 where
+  pub net_is : refused.net ≡ net
+  pub cards_are : map card refused.bodies.items ≡ map card bodies
+  pub bodies_are : refused.fault ≢ NoMemory → refused.bodies.items ≡ bodies
+  pub applies : IsOpenFault net.processes (map card bodies) refused.fault
+
+-- a machine of this network with these bodies is opened and may be shared; or all is handed back
+pub record Opens {B K : Type 0} (card : B → Card) (net : Network) (bodies : List B) (result : Result Unopened (OpenRefused B K)) : Type 0 where
+  pub network : IfOk result (λ o. o.machine.network ≡ net)
+  pub cards : OnOk result (map card bodies ≡ cards_of net.processes)
+  pub refused : IfErr result (IsHandedBack card net bodies)
+
+-- out of memory: a machine's network is returned, and bodies with its cards
+pub record LacksMemory {B K : Type 0} (card : B → Card) (net : Network) (refused : OpenRefused B K) : Type 0 where
+  pub net_is : refused.net ≡ net
+  pub cards_are : map card refused.bodies.items ≡ cards_of net.processes
+  pub fault_is : refused.fault ≡ NoMemory
 
 -- the failure of a run of this network with these bodies
 abbrev pub HandsBack : {B K : Type 0} → (B → Card) → Network → List B → Failure B K → Type 0
-HandsBack card net bodies (NotRun n back fault) = IsHandedBack card net bodies n back.items fault
-HandsBack card net bodies (Lost answered body) = (map card bodies ≡ cards_of net.processes) × (card body ≡ answered.card)
+HandsBack card net bodies (NotRun refused) = IsHandedBack card net bodies refused
+HandsBack card net bodies (Refused finished) = map card bodies ≡ cards_of net.processes
 
--- the failure of a run whose machine was opened: out of memory, or the machine refused an answer
+-- the failure of a run whose machine was opened
 abbrev pub FailsOpened : {B K : Type 0} → (B → Card) → Network → Failure B K → Type 0
-FailsOpened card net (NotRun n back fault) = (n ≡ net) × (map card back.items ≡ cards_of net.processes) × (fault ≡ Memory)
-FailsOpened card net (Lost answered body) = card body ≡ answered.card
+FailsOpened card net (NotRun refused) = LacksMemory card net refused
+FailsOpened card net (Refused finished) = ⊤
+
+-- the fault of a run of this network with these bodies by so many workers
+abbrev pub FailsRun : {B K : Type 0} → (B → Card) → Network → List B → ℕ → RunFault B K → Type 0
+FailsRun card net bodies workers (Workers n back) = (n ≡ net) × (back.items ≡ bodies) × ((workers ≡ 0) ⊎ (16 < workers))
+FailsRun card net bodies workers (Open n back fault) = (n ≡ net) × (back.items ≡ bodies) × (fault ≢ NoMemory) × IsOpenFault net.processes (map card bodies) fault
+FailsRun card net bodies workers (Memory n back) = (n ≡ net) × (map card back.items ≡ map card bodies) × (map card bodies ≡ cards_of net.processes)
+FailsRun card net bodies workers (Lost answered body) = (map card bodies ≡ cards_of net.processes) × (card body ≡ answered.card)
+
+-- a run of this network with these bodies by so many workers, or the fault that it failed with: `wrong` if no run has so
+-- many workers
+pub record Runs {B K : Type 0} (kinds : Family) (card : B → Card) (net : Network) (bodies : List B) (workers : ℕ) (wrong : RunFault B K) (result : Result FinishView (RunFault B K)) : Type 0 where
+  pub run : IfOk result (IsFinishedRun kinds net)
+  pub cards : OnOk result (map card bodies ≡ cards_of net.processes)
+  pub many : (workers ≡ 0) ⊎ (16 < workers) → result ≡ Err wrong
+  pub failed : IfErr result (FailsRun card net bodies workers)
+
+-- a run of this network with these bodies that keeps this promise, or its failure
+pub record RunsBodies {X B K : Type 0} (promise : X → Type 0) (card : B → Card) (net : Network) (bodies : List B) (result : Result X (Failure B K)) : Type 0 where
+  pub run : IfOk result promise
+  pub cards : OnOk result (map card bodies ≡ cards_of net.processes)
+  pub failed : IfErr result (HandsBack card net bodies)

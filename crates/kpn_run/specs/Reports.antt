@@ -10,7 +10,8 @@ use Rattle.kpn_model.specs.texts.Reports.{has_report}
 use Rattle.kpn_laws.specs.Alone.{Streams, BeginsWith}
 use Rattle.kpn_laws.specs.Equations.{listed, Obeys, IsLeastSolution}
 use Rattle.kpn_report.specs.declared.detail.Detail.{Detail}
-use Rattle.kpn_report.specs.Reported.{digest_with}
+use Rattle.kpn_machine.specs.MachineView.{MachineView}
+use Rattle.kpn_report.specs.Reported.{digest_with, IsReport}
 
 -- the end and the detail are those of every run of the network that is over
 abbrev pub IsEveryRuns : Family → Network → End → Option Detail → Type 0
@@ -40,3 +41,12 @@ pub record HasLeastStreams (kinds : Family) (net : Network) (cause : End) (d : D
 -- if the run is over, there is a detail, and it has such streams
 abbrev pub TellsLeastSolution : Family → Network → End → Option Detail → Type 0
 TellsLeastSolution kinds net cause detail = has_report cause ≡ true → (d : Detail) × (detail ≡ Some d) × HasLeastStreams kinds net cause d
+
+-- this end and detail are the report of a machine that ended for this cause, and so of every run of its
+-- network that is over
+pub record IsReportOf (kinds : Family) (s : MachineView) (cause end : End) (detail : Option Detail) : Type 0 where
+  pub end_is : end ≡ cause
+  pub own : IsReport kinds s.network cause s.history s.state detail
+  pub every : IsEveryRuns kinds s.network cause detail
+  pub any_capacities : IsOutcome kinds s.network cause s.history detail
+  pub streams : TellsLeastSolution kinds s.network cause detail

@@ -1,9 +1,9 @@
 -- What a run returns, and what its workers return.
-use Rattle.std.specs.Prelude.{◌≡◌, ◌≢◌, ◌<◌, ℕ, Bool, false, length, List, ◌++◌}
+use Rattle.std.specs.Prelude.{◌≡◌, ◌≢◌, ◌<◌, ℕ, Bool, false, length, List, ◌++◌, Option, Some}
 use Rattle.kpn_model.specs.declared.history.End.{End}
 use Rattle.kpn_model.specs.declared.history.End.TheVariants.{Budget}
 use Rattle.kpn_model.specs.declared.history.Entry.{Entry}
-use Rattle.kpn_model.specs.Network.{Family, Network, resized}
+use Rattle.kpn_model.specs.Network.{Family, Network, resized, Admits}
 use Rattle.kpn_model.specs.Semantics.{State, IsRun}
 use Rattle.kpn_model.specs.Endings.{IsFinal, MayEnd}
 use Rattle.kpn_model.specs.Determinacy.{AreAllPrefixComparable}
@@ -11,7 +11,8 @@ use Rattle.kpn_model.specs.Moments.{IsWithin}
 use Rattle.kpn_laws.specs.RoomOfRun.{TakesLeastRoom}
 use Rattle.kpn_laws.specs.StreamsOfRun.{ApproachLeastSolution}
 use Rattle.kpn_machine.specs.MachineView.{MachineView}
-use Rattle.kpn_monitor.specs.Views.{Shares}
+use Rattle.kpn_monitor.specs.Views.{ClosedView, Shares}
+use Rattle.kpn_monitor.specs.Kept.{IsClosed}
 
 -- a run that has ended: the closed machine, the receipts, and the end
 pub record FinishView : Type 0 where
@@ -50,6 +51,16 @@ pub record IsFinishedRun (kinds : Family) (net : Network) (f : FinishView) : Typ
   pub finish : IsFinish kinds net f
   pub budget : SparesBudget kinds net f.cause
   pub laws : KeepsLaws kinds net f.machine
+
+-- a run that ended did not end because of its budget if some run that is over has fewer entries
+abbrev pub EndSparesBudget : Family → Network → Option End → Type 0
+EndSparesBudget kinds net end = (cause : End) → end ≡ Some cause → SparesBudget kinds net cause
+
+-- all that is promised of a watched run of this network, over or not
+pub record IsWatchedRun (kinds : Family) (admits : Admits) (net : Network) (a : ClosedView) : Type 0 where
+  pub closed : IsClosed kinds admits net a
+  pub budget : EndSparesBudget kinds net a.machine.end
+  pub laws : KeepsLaws kinds net a.machine
 
 -- a worker's slot: its seat, and whether an answer of the worker was refused
 pub record AtSlot : Type 0 where

@@ -1,35 +1,48 @@
 //! A run that has ended.
-ghost use Rattle.std.specs.Prelude.{◌≡◌, Some, IsNone, length, MatchOption};
+ghost use Rattle.std.specs.Prelude.{◌≡◌, Some, IsNone, MatchOption};
 ghost use Rattle.kpn_model.specs.Families.{family};
 ghost use Rattle.kpn_machine.specs.MachineView.{IsFaithful};
 ghost use Rattle.kpn_run.specs.Runs.{IsFinish};
 
-use kpn_machine::{Chronicle, Standing};
-use kpn_model::{End, Entry, Kinds};
-use kpn_monitor::{Closed, EntryLedger};
-use kpn_network::Net;
+use kpn_model::{End, Kinds};
+use kpn_monitor::{BookedRun, Closed, EntryLedger};
 use kpn_state::{Keeper, Wide};
 use std::marker::Model;
+use std::ops::Deref;
 
-/// A run that has ended: its machine's network, history, standings and end, and as many receipts as entries.
+/// A run that has ended: what its machine left, as many receipts as entries, and the end.
 ///
-/// Made only from a `Closed` with an end, so each entry was appended by a commit under the lock.
+/// ```text
+/// let net = finish.net();
+/// let places = places_of(alloc, net, finish.standings())?;
+/// ```
 #[derive(Drop)]
 pub struct Finish<K: Kinds, H: Keeper = Wide> {
-    chronicle: Chronicle<K, H>,
-    receipts: u64,
+    run: BookedRun<K, H>,
     end: End,
 }
 
 impl<K: Kinds, H: Keeper> Model for Finish<K, H> {
-    ghost use Rattle.std.specs.Prelude.{◌≡◌, Some, length};
-    ghost use Rattle.kpn_run.specs.Runs.{FinishView, IsFinish};
+    ghost use Rattle.std.specs.Prelude.{◌≡◌, Some};
+    ghost use Rattle.kpn_run.specs.Runs.{FinishView};
 
     ghost Value = { FinishView };
 
-    ghost view = { λ f. record { machine = f.chronicle; receipts = f.receipts; cause = f.end } };
+    ghost view = { λ f. record { machine = f.run.machine; receipts = f.run.receipts; cause = f.end } };
 
-    ghost invariant = { λ f. (f.chronicle.end ≡ Some f.end) × (length f.chronicle.history ≡ f.receipts) };
+    ghost invariant = { λ f. f.run.machine.end ≡ Some f.end };
+}
+
+impl<K: Kinds, H: Keeper> Deref for Finish<K, H> {
+    ghost use Rattle.std.specs.Prelude.{◌≡◌};
+
+    type Target = BookedRun<K, H>;
+
+    ghost deref_gives = { λ finish run. (run.machine ≡ finish.machine) × (run.receipts ≡ finish.receipts) };
+
+    fn deref(&self) -> &BookedRun<K, H> {
+        &self.run
+    }
 }
 
 impl<K: Kinds, H: Keeper> Finish<K, H> {
@@ -37,62 +50,10 @@ impl<K: Kinds, H: Keeper> Finish<K, H> {
         ensures { MatchOption result (IsNone closed.machine.end) (λ f. (f.machine ≡ closed.machine) × (f.receipts ≡ closed.receipts) × (closed.machine.end ≡ Some f.cause)) }
     {
         let end = closed.end()?;
-        let receipts = closed.receipts();
-        let chronicle = closed.into_chronicle();
         Some(Finish {
-            chronicle,
-            receipts,
+            run: closed.into_run(),
             end,
         })
-    }
-
-    /// Returns the network.
-    ///
-    /// ```text
-    /// let net = finish.net();
-    /// let places = places_of(alloc, net, finish.standings())?;
-    /// ```
-    pub fn net(&self) -> &Net<K>
-        ensures { result.now ≡ self.now.machine.network }
-    {
-        self.chronicle.net()
-    }
-
-    /// Returns the machine's network, history, standings and end. Its `keeper` has the entries.
-    ///
-    /// ```text
-    /// Ok(finish) => say_told(alloc, finish.chronicle(), channel, sink),
-    /// ```
-    pub fn chronicle(&self) -> &Chronicle<K, H>
-        ensures { result.now ≡ self.now.machine }
-    {
-        &self.chronicle
-    }
-
-    /// Returns the standing of each process, in order.
-    ///
-    /// ```text
-    /// let places = places_of(alloc, net, finish.standings())?;
-    /// ```
-    pub fn standings(&self) -> &[Standing]
-        ensures { result.now ≡ self.now.machine.standings }
-    {
-        self.chronicle.standings()
-    }
-
-    /// Returns the sum of the seats' shares of entries, which is the number of entries.
-    ///
-    /// ```text
-    /// match run(rt, alloc, net, bodies, workers, &Prompt) {
-    ///     Ok(finish) => Ok(finish.receipts()),
-    ///     Err(_) => Err(AllocError),
-    /// }
-    /// ```
-    pub fn receipts(&self) -> u64
-        ensures receipts { result ≡ self.now.receipts }
-        ensures entries { result ≡ length self.now.machine.history }
-    {
-        self.receipts
     }
 
     /// Returns how the run ended. `Terminated`, `Deadlock` and `Ceiling` are justified by the state reached,
@@ -108,20 +69,7 @@ impl<K: Kinds, H: Keeper> Finish<K, H> {
         ensures faithful { IsFaithful (family K.Kinds) K.admits self.now.machine }
         ensures finish { IsFinish (family K.Kinds) self.now.machine.network self.now }
     {
-        self.chronicle.end();
+        self.run.end();
         self.end
-    }
-}
-
-impl<K: Kinds> Finish<K> {
-    /// Returns the entries, in order.
-    ///
-    /// ```text
-    /// let stream = stream_of(alloc, finish.net(), finish.history(), channel)?;
-    /// ```
-    pub fn history(&self) -> &[Entry]
-        ensures { result.now ≡ self.now.machine.history }
-    {
-        self.chronicle.history()
     }
 }

@@ -12,9 +12,11 @@
 #![tactic(auto)]
 
 mod boxed;
+pub mod fault;
 mod finish;
 mod gate;
 mod hold_gate;
+pub mod laws;
 mod own_thread;
 mod pace;
 mod reporting;
@@ -25,11 +27,12 @@ pub mod stop_signal;
 mod worker;
 pub mod workforce;
 
+pub use fault::RunFault;
 pub use finish::Finish;
 pub use gate::{Gate, Open, Prompt};
 pub use hold_gate::Hold;
 pub use kpn_model::Place;
 pub use kpn_report::{Detail, Growths, Places, Report, Sizes, Steps, Stream, Streams, stream_of};
 pub use own_thread::{Worked, work, work_with};
-pub use reporting::report;
-pub use running::{RunFault, run, run_with_keeper};
+pub use reporting::{report, report_at};
+pub use running::{run, run_with_keeper};

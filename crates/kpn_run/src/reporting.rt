@@ -1,12 +1,13 @@
 //! The report of a run that has ended.
-ghost use Rattle.std.specs.Prelude.{◌≡◌, IfOk};
+ghost use Rattle.std.specs.Prelude.{◌≡◌, Some, IfOk};
 ghost use Rattle.kpn_model.specs.Families.{family};
 ghost use Rattle.kpn_report.specs.Reported.{IsReport};
-ghost use Rattle.kpn_run.specs.Reports.{IsEveryRuns, IsOutcome, TellsLeastSolution};
+ghost use Rattle.kpn_run.specs.Reports.{IsEveryRuns, IsOutcome, IsReportOf, TellsLeastSolution};
 
 use crate::finish::Finish;
 use kpn_laws::{determinacy_of, least_solution_of};
-use kpn_model::Kinds;
+use kpn_machine::Chronicle;
+use kpn_model::{End, Kinds};
 use kpn_report::{Report, places_of, report_of};
 use std::alloc::{AllocError, Global};
 
@@ -29,11 +30,23 @@ pub fn report<K: Kinds>(alloc: Global, finish: &Finish<K>) -> Result<Report, All
     ensures any_capacities { IfOk result (λ r. IsOutcome (family K.Kinds) finish.now.machine.network finish.now.cause finish.now.machine.history r.detail) }
     ensures streams { IfOk result (λ r. TellsLeastSolution (family K.Kinds) finish.now.machine.network finish.now.cause r.detail) }
 {
+    report_at(alloc, finish.chronicle(), finish.end())
+}
+
+/// Returns the report of a machine that ended so, like [`report`].
+pub fn report_at<K: Kinds>(
+    alloc: Global,
+    chronicle: &Chronicle<K>,
+    end: End,
+) -> Result<Report, AllocError>
+    requires { chronicle.now.end ≡ Some end }
+    ensures { IfOk result (λ r. IsReportOf (family K.Kinds) chronicle.now end r.end r.detail) }
+{
     determinacy_of::<K>();
     least_solution_of::<K>();
-    let end = finish.end();
-    let net = finish.net();
-    let places = places_of(alloc, net, finish.standings())?;
-    let report = report_of(alloc, net, finish.history(), places, end)?;
+    chronicle.end();
+    let net = chronicle.net();
+    let places = places_of(alloc, net, chronicle.standings())?;
+    let report = report_of(alloc, net, chronicle.history(), places, end)?;
     Ok(report)
 }

@@ -1,52 +1,62 @@
-//! Starts runs, and says why one failed.
-ghost use Rattle.std.specs.Prelude.{◌≡◌, ◌≢◌, ◌<◌, ◌≤◌, ◌⊎◌, false, map, IfOk, IfErr, IsTrue, OnOk};
-ghost use Rattle.kpn_model.specs.Network.{Network as NetV};
-ghost use Rattle.kpn_body.specs.Input.{Input};
-ghost use Rattle.kpn_machine.specs.declared.opening.OpenFault.{OpenFault as OpenFaultV};
-ghost use Rattle.kpn_machine.specs.Opening.{cards_of};
+//! Starts runs.
+ghost use Rattle.std.specs.Prelude.{◌≡◌, ◌<◌, ◌≤◌, ◌⊎◌, MatchOption};
 ghost use Rattle.kpn_machine.specs.MachineView.{IsFresh};
-ghost use Rattle.kpn_run.specs.Refusals.{IsHandedBack};
+ghost use Rattle.kpn_run.specs.Refusals.{LacksMemory, Opens};
 
-use kpn_body::{Answered, Body, Finished};
+use kpn_body::Body;
 use kpn_machine::{Machine, OpenFault, OpenRefused};
 use kpn_monitor::Opening;
 use kpn_network::Net;
 use kpn_state::Keeper;
 use std::alloc::Global;
+use std::marker::Model;
 
 /// The most workers of a run.
 pub const MOST_WORKERS: usize = 16;
+
+/// A number of workers that a run may have: 1 to 16.
+#[derive(Drop)]
+pub struct WorkerCount {
+    count: usize,
+}
+
+impl Model for WorkerCount {
+    ghost use Rattle.std.specs.Prelude.{ℕ, ◌<◌, ◌≤◌};
+
+    ghost Value = { ℕ };
+
+    ghost view = { λ w. w.count };
+
+    ghost invariant = { λ w. (0 < w.count) × (w.count ≤ 16) };
+}
+
+impl WorkerCount {
+    /// Returns the count of this many workers; `None` if a run may not have so many.
+    pub fn new(workers: usize) -> Option<WorkerCount>
+        ensures { MatchOption result ((workers ≡ 0) ⊎ (16 < workers)) (λ count. count ≡ workers) }
+    {
+        if workers > 0 && workers <= MOST_WORKERS {
+            Some(WorkerCount { count: workers })
+        } else {
+            None
+        }
+    }
+
+    /// Returns the count as a number.
+    pub fn get(&self) -> usize
+        ensures is { result ≡ self.now }
+        ensures few { (0 < result) × (result ≤ 16) }
+    {
+        self.count
+    }
+}
 
 /// What is to be run: a network, a body for each process, in order, and the number of workers.
 #[derive(Drop)]
 pub struct RunRequest<B: Body> {
     pub net: Net<B::Kinds>,
     pub bodies: Vec<B>,
-    pub workers: usize,
-}
-
-/// Why a run failed.
-#[derive(Drop)]
-pub enum Failure<B: Body> {
-    /// Nothing has run; returns the network and bodies of its cards.
-    NotRun {
-        net: Net<B::Kinds>,
-        bodies: Vec<B>,
-        fault: OpenFault,
-    },
-    /// The machine refused this answer.
-    Lost {
-        answered: Answered<B::Kinds>,
-        body: B,
-    },
-}
-
-/// Whether a run may have this number of workers: 1 to 16.
-pub fn may_work(workers: usize) -> bool
-    ensures few { IsTrue result → (0 < workers) × (workers ≤ 16) }
-    ensures other { result ≡ false → (workers ≡ 0) ⊎ (16 < workers) }
-{
-    workers > 0 && workers <= MOST_WORKERS
+    pub workers: WorkerCount,
 }
 
 /// Opens a machine, and makes what its monitor is opened with.
@@ -57,9 +67,7 @@ pub fn opening_of<B: Body, H: Keeper>(
     net: Net<B::Kinds>,
     bodies: Vec<B>,
 ) -> Result<Opening<B, H>, OpenRefused<B>>
-    ensures network { IfOk result (λ o. o.machine.network ≡ net) }
-    ensures cards { OnOk result (map B.card bodies.items ≡ cards_of net.processes) }
-    ensures refused { IfErr result (λ r. IsHandedBack B.card net bodies.items r.net r.bodies.items r.fault) }
+    ensures { Opens B.card net bodies.items result }
 {
     match Machine::<B, H>::open_with_keeper(alloc, net, bodies) {
         Ok(machine) => match Opening::new(alloc, machine) {
@@ -73,9 +81,7 @@ pub fn opening_of<B: Body, H: Keeper>(
 /// What is returned of a machine that has not run, if out of memory.
 pub fn no_memory<B: Body, H: Keeper>(machine: Machine<B, H>) -> OpenRefused<B>
     requires { IsFresh machine }
-    ensures net { result.net ≡ machine.network }
-    ensures cards { map B.card result.bodies.items ≡ cards_of machine.network.processes }
-    ensures fault { result.fault ≡ OpenFault.Memory }
+    ensures { LacksMemory B.card machine.network result }
 {
     let (net, bodies) = machine.into_parts();
     OpenRefused {
@@ -83,22 +89,4 @@ pub fn no_memory<B: Body, H: Keeper>(machine: Machine<B, H>) -> OpenRefused<B>
         bodies,
         fault: OpenFault::Memory,
     }
-}
-
-/// The failure of a run that did not start.
-pub fn not_run<B: Body>(refused: OpenRefused<B>) -> Failure<B>
-    ensures { result ≡ Failure.NotRun refused.net refused.bodies refused.fault }
-{
-    let OpenRefused { net, bodies, fault } = refused;
-    Failure::NotRun { net, bodies, fault }
-}
-
-/// The failure of a run in which the machine refused this answer.
-pub fn lost<B: Body>(finished: Finished<B>) -> Failure<B>
-    ensures not_run { (n : NetV) (bs : _) (fault : OpenFaultV) → result ≢ Failure.NotRun n bs fault }
-    ensures lost { (a : Input) (b : _) → result ≡ Failure.Lost a b → B.card b ≡ a.card }
-    ensures answer { (a : Input) (b : _) → result ≡ Failure.Lost a b → a ≡ finished }
-{
-    let (answered, body) = finished.into_parts();
-    Failure::Lost { answered, body }
 }

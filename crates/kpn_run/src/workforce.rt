@@ -9,6 +9,7 @@ ghost use Rattle.kpn_run.specs.Runs.{AtSlot, HasMet};
 
 use crate::gate::Gate;
 use crate::slot::{WorkerSlot, hands_for, leave_all, seat_all, work_all};
+use crate::starting::WorkerCount;
 use crate::stop_signal::{Orders, StopSignal};
 use kpn_body::{Body, Finished};
 use kpn_machine::Machine;
@@ -40,7 +41,7 @@ impl<B: Body, E: EntryLedger, O: Ledger> Model for Workforce<B, E, O> {
     ghost invariant = { λ w. (sum_by (λ (b : AtSlot). b.seat.parts) w.slots.items ≡ 65536) × (0 < length w.slots.items) × (length w.slots.items ≤ vec_capacity w.seats) × (w.seats.items ≡ []) };
 }
 
-/// Opens the monitor of a run and seats `workers` workers, 1 to 16. Takes all the memory they need.
+/// Opens the monitor of a run and seats its workers. Takes all the memory they need.
 ///
 /// Errors: out of memory. Returns the machine unchanged.
 pub fn seat_workers<
@@ -53,13 +54,13 @@ pub fn seat_workers<
     rt: &R,
     alloc: Global,
     opening: Opening<B, H>,
-    workers: usize,
+    workers: WorkerCount,
 ) -> Result<(Monitor<B, E, O, H>, Workforce<B, E, O>), Machine<B, H>>
-    requires workers { (0 < workers) × (workers ≤ 16) }
-    requires names { AreNamesOf E.EntryLedger O.Ledger opening }
+    requires { AreNamesOf E.EntryLedger O.Ledger opening }
     ensures fresh { IfErr result IsFresh }
     ensures back { IfErr result (λ m. m ≡ opening.machine) }
 {
+    let workers = workers.get();
     let Ok(mut slots) = Vec::with_capacity(alloc, workers) else {
         return Err(opening.into_machine());
     };

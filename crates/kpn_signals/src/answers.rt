@@ -6,6 +6,7 @@ ghost use Rattle.kpn_signals.specs.Signatures.{accepts};
 use crate::arithmetic::{
     abs, div, gain, left, max, min, mul, offset, remainder, scale, shift, sub,
 };
+use crate::bits::Bits;
 use crate::ends::{constant, copy_flags, count_up, prefix};
 use crate::filters::{average, clip, counter, delay, difference, hold, low_pass, sum};
 use crate::logic::{and, edge, equal, less, not, or};
@@ -31,8 +32,8 @@ pub fn answer(kind: Signal, args: [u64; 3], local: Local, last: Option<Token>) -
         Signal::CountUp => count_up(local),
         Signal::Sub => sub(local, last),
         Signal::Mul => mul(local, last),
-        Signal::Shift => shift(a, local, last),
-        Signal::Left => left(a, local, last),
+        Signal::Shift => shift(Bits::new(a), local, last),
+        Signal::Left => left(Bits::new(a), local, last),
         Signal::Less => less(local, last),
         Signal::Equal => equal(local, last),
         Signal::Not => not(local, last),
@@ -42,7 +43,7 @@ pub fn answer(kind: Signal, args: [u64; 3], local: Local, last: Option<Token>) -
         Signal::Repeat => repeat(a, local, last),
         Signal::Hold => hold(local, last),
         Signal::Delay => delay(a, local, last),
-        Signal::LowPass => low_pass(a, local, last),
+        Signal::LowPass => low_pass(Bits::new(a), local, last),
         Signal::Clip => clip(a, b, local, last),
         Signal::SignedConstant => constant(word_below(a), local),
         Signal::SignedHold => hold(local, last),

@@ -4,6 +4,7 @@ ghost use Rattle.kpn_signals.specs.Shapes.{step_answer, join_answer};
 ghost use Rattle.kpn_signals.specs.Words.{signed};
 ghost use Rattle.kpn_signals.specs.Arithmetic.{sub_join, mul_join, scale_step, shift_step, left_step, min_join, max_join, abs_step, offset_step, gain_step, div_join, mod_join};
 
+use crate::bits::Bits;
 use crate::turns::{joined, latest, reads, word, writes_word};
 use crate::wide::{floor_div, signed, wrapped};
 use crate::words;
@@ -37,23 +38,21 @@ pub(crate) fn scale(factor: u64, local: Local, last: Option<Token>) -> Answer
 }
 
 /// Reads a word, and writes it shifted right by `bits` as a signed number, forever.
-pub(crate) fn shift(bits: u64, local: Local, last: Option<Token>) -> Answer
-    requires { bits < 64 }
+pub(crate) fn shift(bits: Bits, local: Local, last: Option<Token>) -> Answer
     ensures { result ≡ step_answer (shift_step bits) local last }
 {
     match last {
         None => reads(local),
-        Some(token) => writes_word(local, right_shift(bits, word(token))),
+        Some(token) => writes_word(local, right_shift(bits.number, word(token))),
     }
 }
 
-pub(crate) fn left(bits: u64, local: Local, last: Option<Token>) -> Answer
-    requires { bits < 64 }
+pub(crate) fn left(bits: Bits, local: Local, last: Option<Token>) -> Answer
     ensures { result ≡ step_answer (left_step bits) local last }
 {
     match last {
         None => reads(local),
-        Some(token) => writes_word(local, word(token) << bits),
+        Some(token) => writes_word(local, word(token) << bits.number),
     }
 }
 

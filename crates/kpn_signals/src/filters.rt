@@ -4,6 +4,7 @@ ghost use Rattle.kpn_signals.specs.Words.{signed};
 ghost use Rattle.kpn_signals.specs.Shapes.{step_answer, join_answer};
 ghost use Rattle.kpn_signals.specs.Filters.{hold_join, delay_step, low_pass_step, clip_step, sum_step, difference_step, mean, average_step, counter_step};
 
+use crate::bits::Bits;
 use crate::turns::{flag, joined, latest, number, reads, word, writes_word};
 use crate::wide::{floor_div, signed, wrapped};
 use kpn_model::{Answer, Local, Token};
@@ -34,8 +35,7 @@ pub(crate) fn delay(n: u64, local: Local, last: Option<Token>) -> Answer
 }
 
 /// Reads a word x, writes y + (x - y) / 2^bits, rounded down, signed, forever. y is the word it wrote last.
-pub(crate) fn low_pass(bits: u64, local: Local, last: Option<Token>) -> Answer
-    requires { bits < 64 }
+pub(crate) fn low_pass(bits: Bits, local: Local, last: Option<Token>) -> Answer
     ensures { result ≡ step_answer (low_pass_step bits) local last }
 {
     match last {
@@ -43,7 +43,7 @@ pub(crate) fn low_pass(bits: u64, local: Local, last: Option<Token>) -> Answer
         Some(token) => {
             let level = i128::from(local[0].cast_signed());
             let word = i128::from(word(token).cast_signed());
-            let next = level + ((word - level) >> bits);
+            let next = level + ((word - level) >> bits.number);
             let next = (next as i64).cast_unsigned();
             writes_word([next, 0, 0, 0], next)
         }

@@ -10,6 +10,7 @@
 
 pub mod answers;
 mod arithmetic;
+mod bits;
 mod ends;
 mod filters;
 pub mod help;

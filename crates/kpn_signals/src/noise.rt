@@ -1,6 +1,6 @@
 //! The generator SplitMix64 (Steele, Lea and Flood 2014).
-ghost use Rattle.std.specs.Prelude.{◌≡◌, ◌<◌};
-ghost use Rattle.kpn_signals.specs.Noise.{moved, shaken, mixed, noise_answer};
+ghost use Rattle.std.specs.Prelude.{◌≡◌};
+ghost use Rattle.kpn_signals.specs.Noise.{moved, mixed, noise_answer};
 
 use crate::turns::writes_word;
 use kpn_model::{Answer, Local};
@@ -28,14 +28,7 @@ fn moved(state: u64) -> u64
 fn mixed(state: u64) -> u64
     ensures { result ≡ mixed state }
 {
-    let once = shaken(30, state).wrapping_mul(FIRST_FACTOR);
-    let twice = shaken(27, once).wrapping_mul(SECOND_FACTOR);
-    shaken(31, twice)
-}
-
-fn shaken(bits: u64, word: u64) -> u64
-    requires { bits < 64 }
-    ensures { result ≡ shaken bits word }
-{
-    word ^ (word >> bits)
+    let once = (state ^ (state >> 30)).wrapping_mul(FIRST_FACTOR);
+    let twice = (once ^ (once >> 27)).wrapping_mul(SECOND_FACTOR);
+    twice ^ (twice >> 31)
 }

@@ -1,5 +1,5 @@
 -- The candidates for a growth, in the order in which channels grow (Parks 1995).
-use Rattle.std.specs.Prelude.{◌≡◌, ℕ, ◌<◌, ◌⊎◌, List, length, get_or}
+use Rattle.std.specs.Prelude.{◌≡◌, ◌≢◌, ◌↔◌, ℕ, ◌<◌, ◌+◌, ◌⊎◌, List, length, get_or, Contains}
 
 abbrev pub IsBefore : ℕ × ℕ → ℕ × ℕ → Type 0
 IsBefore x y = (x.0 < y.0) ⊎ ((x.0 ≡ y.0) × (x.1 < y.1))
@@ -13,3 +13,9 @@ pub record CandidateList : Type 0 where
 
 abbrev pub candidate_list : List (ℕ × ℕ) → ℕ → CandidateList
 candidate_list pairs limit = record { pairs = pairs; limit = limit }
+
+-- the pair, if it was there, is there no more; all others are
+pub record Removes (old : CandidateList) (pair : ℕ × ℕ) (new : CandidateList) : Type 0 where
+  pub pairs : (x : ℕ × ℕ) → Contains new.pairs x ↔ ((x ≢ pair) × Contains old.pairs x)
+  pub many : Contains old.pairs pair → length new.pairs + 1 ≡ length old.pairs
+  pub limit : new.limit ≡ old.limit

@@ -1,7 +1,8 @@
 -- The queue of the ready processes, the counts beside it, and how they fit the standings.
-use Rattle.std.specs.Prelude.{◌≡◌, ℕ, ◌≤◌, List, [], ◌∷◌, ◌++◌, length, if◌then◌else◌, nat_eq, count_by, filter, not}
+use Rattle.std.specs.Prelude.{◌≡◌, ◌≢◌, ℕ, ◌<◌, ◌≤◌, Bool, List, [], ◌∷◌, ◌++◌, length, set, if◌then◌else◌, nat_eq, count_by, filter, not}
 use Rattle.circular_buffer.specs.Buffer.{Buffer}
 use Rattle.kpn_state.specs.declared.standing.Standing.{Standing}
+use Rattle.kpn_state.specs.declared.standing.Standing.TheVariants.{Ready, Out}
 use Rattle.kpn_state.specs.Standings.{standing, is_ready, is_out, is_live}
 
 abbrev pub times : List ℕ → ℕ → ℕ
@@ -14,6 +15,24 @@ pub record Agrees (standings : List Standing) (queue : List ℕ) (capacity out l
   pub room_for_all : length standings ≤ capacity
   pub out_is : out ≡ count_by is_out standings
   pub live_is : live ≡ count_by is_live standings
+
+-- p is a ready process
+pub record IsReady (standings : List Standing) (p : ℕ) : Type 0 where
+  pub ready : standing standings p ≡ Ready
+  pub within : p < length standings
+
+abbrev pub NoneIsReady : List Standing → Type 0
+NoneIsReady standings = (p : ℕ) → standing standings p ≢ Ready
+
+-- p, which was ready, goes out
+pub record GoesOut (standings : List Standing) (p : ℕ) (moved : List Standing) : Type 0 where
+  pub was : IsReady standings p
+  pub out : moved ≡ set standings p Out
+
+-- 1 for what counts, 0 for what doesn't
+pub record Weighs (counts : Bool) (weight : ℕ) : Type 0 where
+  pub value : weight ≡ if counts then 1 else 0
+  pub few : weight ≤ 1
 
 -- the queue after p, which was not queued, got this standing
 abbrev pub queue_after : List ℕ → ℕ → Standing → List ℕ

@@ -1,9 +1,9 @@
 -- A state with the history that led to it.
-use Rattle.std.specs.Prelude.{◌≡◌, ℕ, ◌≤◌, ◌^◌, List, [], ◌∷◌, ◌++◌, length}
+use Rattle.std.specs.Prelude.{◌≡◌, ℕ, ◌<◌, ◌≤◌, ◌^◌, List, [], ◌∷◌, ◌++◌, length, drop}
 use Rattle.kpn_model.specs.declared.token.Token.{Token}
 use Rattle.kpn_model.specs.declared.history.Entry.{Entry}
 use Rattle.kpn_model.specs.declared.history.Status.{Status}
-use Rattle.kpn_model.specs.Semantics.{State, Held}
+use Rattle.kpn_model.specs.Semantics.{State, Held, tokens, capacity, with_channel}
 use Rattle.kpn_model.specs.History.{growths}
 
 abbrev pub state : List Status → List Held → State
@@ -22,6 +22,40 @@ state_and_history M E limit = record { state = M; history = E; limit = limit }
 
 abbrev pub more : StateAndHistory → State → Entry → StateAndHistory
 more s M e = state_and_history M (s.history ++ e ∷ []) s.limit
+
+-- p is a process, and there is room for one more entry
+pub record MayEnter (s : StateAndHistory) (p : ℕ) : Type 0 where
+  pub process : p < length s.state.processes
+  pub room : length s.history < s.limit
+
+-- c is a channel with a token
+pub record HasFirst (M : State) (c : ℕ) : Type 0 where
+  pub channel : c < length M.channels
+  pub some : 0 < length (tokens M c)
+
+-- c is a channel with room for one more token
+pub record HasSpace (M : State) (c : ℕ) : Type 0 where
+  pub channel : c < length M.channels
+  pub space : length (tokens M c) < capacity M c
+
+pub record MayTake (s : StateAndHistory) (p c : ℕ) : Type 0 where
+  pub enters : MayEnter s p
+  pub first : HasFirst s.state c
+
+pub record MayPut (s : StateAndHistory) (p c : ℕ) : Type 0 where
+  pub enters : MayEnter s p
+  pub space : HasSpace s.state c
+
+-- the tokens of c fit the new capacity, and there is room for one more entry
+pub record MayGrow (s : StateAndHistory) (c to : ℕ) : Type 0 where
+  pub channel : c < length s.state.channels
+  pub within : length (tokens s.state c) ≤ to
+  pub room : length s.history < s.limit
+
+-- this was the first token of c, and is gone, without an entry
+pub record Drains (s : StateAndHistory) (c : ℕ) (token : Token) (t : StateAndHistory) : Type 0 where
+  pub token_is : tokens s.state c ≡ token ∷ drop 1 (tokens s.state c)
+  pub rest : t ≡ state_and_history (with_channel s.state c (drop 1 (tokens s.state c)) (capacity s.state c)) s.history s.limit
 
 -- `room` is enough for `limit` entries, `grown` counts growths, and processes and channels fit 16 bits
 pub record IsStored (s : StateAndHistory) (room grown : ℕ) : Type 0 where

@@ -1,6 +1,6 @@
 //! The candidates for a growth.
-ghost use Rattle.std.specs.Prelude.{◌≡◌, ◌≢◌, ◌↔◌, ◌⊎◌, ℕ, ◌<◌, ◌≤◌, ◌+◌, length, [], get_or, slice_get, Contains, IfOk, IsTrue};
-ghost use Rattle.kpn_state.specs.Candidates.{IsBefore, IsInOrder, candidate_list};
+ghost use Rattle.std.specs.Prelude.{◌≡◌, ◌↔◌, ◌⊎◌, ℕ, ◌<◌, ◌≤◌, ◌+◌, length, [], get_or, slice_get, Contains, IfOk, IsTrue};
+ghost use Rattle.kpn_state.specs.Candidates.{IsBefore, IsInOrder, Removes, candidate_list};
 
 use std::alloc::{AllocError, Global};
 use std::marker::Model;
@@ -61,9 +61,7 @@ impl Candidates {
 
     /// Removes a channel of this capacity, if it is listed.
     pub fn remove(&mut self, capacity: usize, channel: usize)
-        ensures pairs { (x : ℕ × ℕ) → Contains self.new.pairs x ↔ ((x ≢ (capacity, channel)) × Contains self.old.pairs x) }
-        ensures many { Contains self.old.pairs (capacity, channel) → length self.new.pairs + 1 ≡ length self.old.pairs }
-        ensures limit { self.new.limit ≡ self.old.limit }
+        ensures { Removes self.old (capacity, channel) self.new }
     {
         let pair = (capacity, channel);
         let place = place_of(self.pairs.as_slice(), pair);

@@ -39,9 +39,8 @@ impl Ring {
 
     /// Returns the number of tokens in the channel, and its capacity.
     pub fn tokens_and_capacity(&self) -> (usize, usize)
-        ensures tokens { result.0 ≡ length self.now.tokens }
-        ensures capacity { result.1 ≡ self.now.capacity }
-        ensures within { result.0 ≤ result.1 }
+        ensures counts { result ≡ (length self.now.tokens, self.now.capacity) }
+        ensures fits { length self.now.tokens ≤ self.now.capacity }
     {
         (self.buffer.len(), self.capacity)
     }

@@ -1,9 +1,9 @@
 //! The standings of the processes, with a queue of the ready ones.
-ghost use Rattle.std.specs.Prelude.{◌≡◌, ◌≢◌, ◌<◌, ◌≤◌, ℕ, length, set, replicate, if◌then◌else◌, count_by, IsTrue, IfOk, IfSome, IfNone};
+ghost use Rattle.std.specs.Prelude.{◌≡◌, ◌<◌, length, set, replicate, count_by, IsTrue, IfOk, IfSome, IfNone};
 ghost use Rattle.std.specs.List.{list_any, list_all};
-ghost use Rattle.kpn_state.specs.declared.standing.Standing.TheVariants.{Ready, Out};
+ghost use Rattle.kpn_state.specs.declared.standing.Standing.TheVariants.{Ready};
 ghost use Rattle.kpn_state.specs.Standings.{standing, is_busy, is_live, is_out, is_parked, is_ready, has_stopped};
-ghost use Rattle.kpn_state.specs.Rosters.{queue_after, times, HasLeft};
+ghost use Rattle.kpn_state.specs.Rosters.{queue_after, times, HasLeft, IsReady, NoneIsReady, GoesOut, Weighs};
 
 use crate::standing::Standing;
 use circular_buffer::HeapCircularBuffer;
@@ -117,11 +117,8 @@ impl Roster {
 
     /// Sends out the first process of the queue, and returns its number; `None` if none is ready.
     pub fn send_out(&mut self) -> Option<usize>
-        ensures some { IfSome result (λ p. standing self.old p ≡ Ready) }
-        ensures within { IfSome result (λ p. p < length self.old) }
-        ensures out { IfSome result (λ p. self.new ≡ set self.old p Out) }
-        ensures none { IfNone result ((p : ℕ) → standing self.old p ≢ Ready) }
-        ensures same { IfNone result (self.new ≡ self.old) }
+        ensures some { IfSome result (λ p. GoesOut self.old p self.new) }
+        ensures none { IfNone result (NoneIsReady self.old × (self.new ≡ self.old)) }
     {
         let process = self.queue.pop_front()?;
         self.standings[process] = Standing::Out;
@@ -134,9 +131,8 @@ impl Roster {
     #[inline(always)]
     pub fn turn(&mut self, again: Option<usize>) -> Option<usize>
         requires { IfSome again (λ p. standing self.old p ≡ Ready) }
-        ensures some { IfSome result (λ p. standing self.old p ≡ Ready) }
-        ensures within { IfSome result (λ p. p < length self.old) }
-        ensures none { IfNone result ((p : ℕ) → standing self.old p ≢ Ready) }
+        ensures some { IfSome result (IsReady self.old) }
+        ensures none { IfNone result (NoneIsReady self.old) }
         ensures same { self.new ≡ self.old }
     {
         if let Some(process) = again {
@@ -196,8 +192,7 @@ impl Roster {
 }
 
 fn out_weight(standing: &Standing) -> usize
-    ensures value { result ≡ if is_out standing.now then 1 else 0 }
-    ensures few { result ≤ 1 }
+    ensures { Weighs (is_out standing.now) result }
 {
     match standing {
         Standing::Out => 1,
@@ -206,8 +201,7 @@ fn out_weight(standing: &Standing) -> usize
 }
 
 fn stopped_weight(standing: &Standing) -> usize
-    ensures value { result ≡ if has_stopped standing.now then 1 else 0 }
-    ensures few { result ≤ 1 }
+    ensures { Weighs (has_stopped standing.now) result }
 {
     match standing {
         Standing::Stopped => 1,

@@ -5,7 +5,7 @@ ghost use Rattle.kpn_model.specs.Semantics.{status, tokens, capacity, with_statu
 ghost use Rattle.kpn_model.specs.declared.history.Status.TheVariants.{Live, Done};
 ghost use Rattle.kpn_model.specs.declared.history.Entry.TheVariants.{Did, Grew};
 ghost use Rattle.kpn_model.specs.declared.history.Deed.TheVariants.{Took, Put, Stopped};
-ghost use Rattle.kpn_state.specs.StateAndHistory.{state, state_and_history, more};
+ghost use Rattle.kpn_state.specs.StateAndHistory.{state, state_and_history, more, MayEnter, MayTake, MayPut, MayGrow, HasFirst, HasSpace, Drains};
 ghost use Rattle.kpn_state.specs.Packed.{IsSmall};
 
 use crate::keeper::{Keeper, Unkept, Wide};
@@ -144,8 +144,7 @@ impl Store<Unkept> {
 impl<H: Keeper> Store<H> {
     /// Stops a process, and appends the entry. There must be room for it.
     pub fn stop(&mut self, process: usize)
-        requires process { process < length self.old.state.processes }
-        requires room { length self.old.history < self.old.limit }
+        requires { MayEnter self.old process }
         ensures { self.new ≡ more self.old (with_status self.old.state process Done) (Did process Stopped) }
     {
         self.statuses[process] = Status::Done;
@@ -156,10 +155,7 @@ impl<H: Keeper> Store<H> {
     /// token. There must be a token, and room for the entry. `next` is the new local state.
     #[inline(always)]
     pub fn take(&mut self, process: usize, channel: usize, next: Local) -> Token
-        requires process { process < length self.old.state.processes }
-        requires channel { channel < length self.old.state.channels }
-        requires some { 0 < length (tokens self.old.state channel) }
-        requires room { length self.old.history < self.old.limit }
+        requires { MayTake self.old process channel }
         ensures token { tokens self.old.state channel ≡ result ∷ drop 1 (tokens self.old.state channel) }
         ensures entry { self.new ≡ more self.old (with_channel (with_status self.old.state process (Live next (Some result))) channel (drop 1 (tokens self.old.state channel)) (capacity self.old.state channel)) (Did process (Took channel result)) }
     {
@@ -177,10 +173,7 @@ impl<H: Keeper> Store<H> {
     /// `next` is the new local state.
     #[inline(always)]
     pub fn put(&mut self, process: usize, channel: usize, next: Local, token: Token)
-        requires process { process < length self.old.state.processes }
-        requires channel { channel < length self.old.state.channels }
-        requires space { length (tokens self.old.state channel) < capacity self.old.state channel }
-        requires room { length self.old.history < self.old.limit }
+        requires { MayPut self.old process channel }
         ensures { self.new ≡ more self.old (with_channel (with_status self.old.state process (Live next None)) channel (tokens self.old.state channel ++ token ∷ []) (capacity self.old.state channel)) (Did process (Put channel token)) }
     {
         // The status first: its stores are then done while the token is put.
@@ -195,8 +188,7 @@ impl<H: Keeper> Store<H> {
 
     /// Appends a token to a channel from outside the network, without an entry. The channel must have room.
     pub fn feed(&mut self, channel: usize, token: Token)
-        requires channel { channel < length self.old.state.channels }
-        requires space { length (tokens self.old.state channel) < capacity self.old.state channel }
+        requires { HasSpace self.old.state channel }
         ensures { self.new ≡ state_and_history (with_channel self.old.state channel (tokens self.old.state channel ++ token ∷ []) (capacity self.old.state channel)) self.old.history self.old.limit }
     {
         let fed = &mut self.rings[channel];
@@ -205,10 +197,8 @@ impl<H: Keeper> Store<H> {
 
     /// Removes the first token, which must exist, and returns it to outside the network, without an entry.
     pub fn drain(&mut self, channel: usize) -> Token
-        requires channel { channel < length self.old.state.channels }
-        requires some { 0 < length (tokens self.old.state channel) }
-        ensures token { tokens self.old.state channel ≡ result ∷ drop 1 (tokens self.old.state channel) }
-        ensures rest { self.new ≡ state_and_history (with_channel self.old.state channel (drop 1 (tokens self.old.state channel)) (capacity self.old.state channel)) self.old.history self.old.limit }
+        requires { HasFirst self.old.state channel }
+        ensures { Drains self.old channel result self.new }
     {
         let drained = &mut self.rings[channel];
         drained.take()
@@ -217,9 +207,7 @@ impl<H: Keeper> Store<H> {
     /// Sets the capacity of a channel to `to` tokens, and appends the entry. There must be room for it.
     /// Errors: out of memory; nothing has then changed.
     pub fn grow(&mut self, channel: usize, to: usize) -> Result<(), AllocError>
-        requires channel { channel < length self.old.state.channels }
-        requires within { length (tokens self.old.state channel) ≤ to }
-        requires room { length self.old.history < self.old.limit }
+        requires { MayGrow self.old channel to }
         ensures ok { OnOk result (self.new ≡ more self.old (with_channel self.old.state channel (tokens self.old.state channel) to) (Grew channel to)) }
         ensures err { OnErr result (self.new ≡ self.old) }
     {

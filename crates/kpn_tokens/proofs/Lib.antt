@@ -15,3 +15,4 @@ pub mod LinesBack
 pub mod TablesBack
 pub mod Chunks
 pub mod RowsOn
+pub mod Sorted

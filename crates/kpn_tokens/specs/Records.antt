@@ -110,6 +110,11 @@ clips (Lines decimals) = false
 clips (Fields column) = false
 clips (Frames frame) = frame.sample.clips
 
+-- so many tokens do not fit, and each fits if the nearest may not be written
+pub record IsMisfitCount (layout : Layout) (tokens : List Token) (n : ℕ) : Type 0 where
+  pub all : n ≡ misfits layout tokens
+  pub unclipped : clips layout ≡ false → n ≡ 0
+
 -- a token of the sort, with a word of 64 bits
 abbrev pub IsOf : Sort → Token → Type 0
 IsOf Words (Word n) = n < 2 ^ 64

@@ -27,7 +27,8 @@ pub fn record_in(layout: Layout, bytes: &[u8], is_last: bool) -> Option<Cut>
     })
 }
 
-fn line_feed_in(bytes: &[u8]) -> Option<usize>
+/// Returns the place of the first line feed.
+pub fn line_feed_in(bytes: &[u8]) -> Option<usize>
     ensures { result ≡ position is_line_feed bytes.now }
 {
     bytes.iter().position(|b| *b == b'\n')

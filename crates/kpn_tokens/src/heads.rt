@@ -1,7 +1,7 @@
 //! The head of a file: that of a WAV file, or a row of names.
 ghost use Rattle.std.specs.Prelude.{◌≡◌, ◌<◌, ◌≤◌, ◌+◌, ◌*◌, ◌^◌, ◌++◌, ◌⊎◌, ℕ, true, false, None, Some, IfNone, IfSome, MatchOption, MatchResult, OnOk, length};
 ghost use Rattle.std.specs.List.{flat_map};
-ghost use Rattle.kpn_tokens.specs.Heads.{Finds, IsFrameOf, IsWavResult, after_chunk, body_size, chunk_size, has_letters, if_filled, is_pcm, is_wav, number_at, number_bytes, size_told, wav_sample, wav_text, width_of, width_told};
+ghost use Rattle.kpn_tokens.specs.Heads.{Finds, IsFrameOf, IsWavResult, body_size, chunk_size, has_letters, if_filled, is_pcm, is_wav, number_at, number_bytes, size_told, wav_sample, wav_text, width_of, width_told};
 ghost use Rattle.kpn_tokens.specs.Samples.{bytes_in};
 
 use crate::layouts::{Coding, Endian, Frame, Sample, Width};
@@ -109,7 +109,8 @@ fn chunk_in(bytes: &[u8], letters: &[u8]) -> Option<usize>
         if has_letters(bytes, place, letters) {
             return Some(place);
         }
-        place = after_chunk(bytes, place);
+        let size = chunk_size(bytes, place) as usize;
+        place = place + 8 + size + size % 2;
     }
     None
 }
@@ -121,20 +122,11 @@ fn has_letters(bytes: &[u8], place: usize, letters: &[u8]) -> bool
     &bytes[place..place + 4] == letters
 }
 
-fn chunk_size(bytes: &[u8], place: usize) -> usize
+fn chunk_size(bytes: &[u8], place: usize) -> u32
     requires { place + 8 ≤ length bytes.now }
-    ensures size { result ≡ chunk_size place bytes.now }
-    ensures small { result < 2 ^ 32 }
+    ensures { result ≡ chunk_size place bytes.now }
 {
-    LittleEndian::read_u32(&bytes[place + 4..]) as usize
-}
-
-fn after_chunk(bytes: &[u8], place: usize) -> usize
-    requires { place + 8 ≤ length bytes.now }
-    ensures { result ≡ after_chunk place bytes.now }
-{
-    let size = chunk_size(bytes, place);
-    place + 8 + size + size % 2
+    LittleEndian::read_u32(&bytes[place + 4..])
 }
 
 fn short_at(bytes: &[u8], place: usize) -> u16
@@ -204,13 +196,12 @@ fn head_of(bytes: &[u8], format: usize, samples: usize, width: Width) -> WavHead
     ensures start { result.start ≡ samples + 8 }
     ensures size { result.size ≡ size_told (chunk_size samples bytes.now) }
 {
-    let size = LittleEndian::read_u32(&bytes[samples + 4..]);
     WavHead {
         channels: short_at(bytes, format + 10),
         rate: LittleEndian::read_u32(&bytes[format + 12..]),
         sample: wav_sample(width),
         start: samples + 8,
-        size: size_told(size),
+        size: size_told(chunk_size(bytes, samples)),
     }
 }
 

@@ -21,7 +21,7 @@ mod word_lines;
 
 pub use appending::{AppendFault, append_tokens, count_misfits};
 pub use columns::{TokenColumn, append_table, longest};
-pub use cutting::record_in;
+pub use cutting::{line_feed_in, record_in};
 pub use heads::{LONGEST_HEAD, WavFault, WavHead, append_wav_head, wav_head, wav_sample};
 pub use kpn_model::{Sort, Token};
 pub use laws::{reads_back, reads_columns_back};

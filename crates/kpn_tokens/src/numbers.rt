@@ -3,7 +3,6 @@ ghost use Rattle.std.specs.Prelude.{◌≡◌, ◌==◌, ◌+◌, ◌*◌, ◌^�
 ghost use Rattle.std.specs.Char.{digit_value};
 ghost use Rattle.std.specs.List.{after_first, before_first, list_all, list_any, position};
 ghost use Rattle.std.specs.Str.Parse.{digits_value, digits_value_after};
-ghost use Rattle.kpn_tokens.specs.Records.{IsSaidOf};
 ghost use Rattle.kpn_tokens.specs.Numbers.{digits_said, flag_said, is_digit, is_point, is_underscore, last_digits, number_said, token_said, token_text, units_text, word_of, word_said, word_text};
 
 use crate::layouts::{Decimals, RecordFault};
@@ -16,8 +15,7 @@ pub(crate) fn token_in(
     sort: Sort,
     text: &str,
 ) -> Result<Option<Token>, RecordFault>
-    ensures said { result ≡ token_said decimals sort text.now }
-    ensures sorted { IsSaidOf sort result }
+    ensures { result ≡ token_said decimals sort text.now }
 {
     match sort {
         Sort::Words => match word_in(decimals.digits, text.as_bytes()) {
@@ -96,7 +94,6 @@ fn at_point(text: &[u8]) -> (&[u8], &[u8])
 
 /// Reads digits before and after a point in units of 10^-places.
 fn number_of(places: u8, base: u8, whole: &[u8], part: &[u8]) -> Result<u64, RecordFault>
-    requires { 1 < base }
     ensures { result ≡ word_of (digits_said places base (whole.now ++ part.now) (length part.now)) false }
 {
     if !(has_digit(base, whole) || has_digit(base, part)) {
@@ -143,7 +140,6 @@ fn value_of_digit(byte: u8) -> u8
 }
 
 fn value_of(zeros: u8, base: u8, whole: &[u8], part: &[u8]) -> Option<u64>
-    requires { 1 < base }
     ensures { SomeIff result (digits_value base (whole.now ++ part.now) * 10 ^ zeros < 2 ^ 64) (digits_value base (whole.now ++ part.now) * 10 ^ zeros) }
 {
     let Some(start) = value_after(0, base, whole) else {
@@ -157,7 +153,6 @@ fn value_of(zeros: u8, base: u8, whole: &[u8], part: &[u8]) -> Option<u64>
 
 /// Continues a number with more digits; `None` past 64 bits.
 fn value_after(start: u64, base: u8, digits: &[u8]) -> Option<u64>
-    requires { 1 < base }
     ensures { SomeIff result (digits_value_after base start digits.now < 2 ^ 64) (digits_value_after base start digits.now) }
 {
     let mut value = start;

@@ -5,7 +5,6 @@ ghost use Rattle.csv.specs.Reading.{Ready, reader_config, reader_state, reader_t
 ghost use Rattle.csv.specs.declared.parser.State.TheVariants as st;
 ghost use Rattle.csv.specs.declared.reader.Trim.TheVariants as trim;
 ghost use Rattle.csv.specs.Records.{field_at, fields_of};
-ghost use Rattle.kpn_tokens.specs.Records.{IsSaidOf};
 ghost use Rattle.kpn_tokens.specs.Rows.{IsAtLine, config_of, field_said, is_open, is_open_field, row_in, row_said, seen_row};
 
 use crate::layouts::{Column, RecordFault, Separator};
@@ -21,8 +20,7 @@ pub(crate) fn said_by_row(
     sort: Sort,
     line: &[u8],
 ) -> Result<Result<Option<Token>, RecordFault>, AllocError>
-    ensures said { IfOk result (λ said. said ≡ row_said column sort (row_in column.separator line.now)) }
-    ensures sorted { IfOk result (IsSaidOf sort) }
+    ensures { IfOk result (λ said. said ≡ row_said column sort (row_in column.separator line.now)) }
 {
     match row_of(alloc, column.separator, line)? {
         Ok(Some(row)) => Ok(said_by_fields(column, sort, &row)),
@@ -122,8 +120,7 @@ fn said_by_fields(
     sort: Sort,
     row: &ByteRecord,
 ) -> Result<Option<Token>, RecordFault>
-    ensures said { result ≡ field_said column.decimals sort (field_at (fields_of row.now) column.place) }
-    ensures sorted { IsSaidOf sort result }
+    ensures { result ≡ field_said column.decimals sort (field_at (fields_of row.now) column.place) }
 {
     let Some(field) = row.get(column.place) else {
         return Err(RecordFault::NoField);

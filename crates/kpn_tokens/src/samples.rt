@@ -34,7 +34,13 @@ fn word_in(sample: &Sample, bytes: &[u8]) -> u64
         Endian::Little => number_by::<LittleEndian>(sample.width, bytes),
         Endian::Big => number_by::<BigEndian>(sample.width, bytes),
     };
-    word_of(sample.coding, sample.width, number)
+    let half = half_of_numbers(sample.width);
+    match sample.coding {
+        Coding::Unsigned => number,
+        Coding::Signed if number < half => number,
+        Coding::Signed => number.wrapping_sub(half).wrapping_sub(half),
+        Coding::Offset => number.wrapping_sub(half),
+    }
 }
 
 fn number_by<O: ByteOrder>(width: Width, bytes: &[u8]) -> u64
@@ -60,19 +66,6 @@ fn half_of_numbers(width: Width) -> u64
         Width::Three => 1 << 23,
         Width::Four => 1 << 31,
         Width::Eight => 1 << 63,
-    }
-}
-
-fn word_of(coding: Coding, width: Width, number: u64) -> u64
-    requires { number < numbers_of width }
-    ensures { result ≡ word_from coding width number }
-{
-    let half = half_of_numbers(width);
-    match coding {
-        Coding::Unsigned => number,
-        Coding::Signed if number < half => number,
-        Coding::Signed => number.wrapping_sub(half).wrapping_sub(half),
-        Coding::Offset => number.wrapping_sub(half),
     }
 }
 

@@ -88,8 +88,7 @@ fn is_marked(text: &[u8]) -> bool
 #[cold]
 #[inline(never)]
 fn said_by_line(decimals: Decimals, sort: Sort, line: &[u8]) -> Result<Option<Token>, RecordFault>
-    ensures said { result ≡ text_said decimals sort line.now }
-    ensures sorted { IsSaidOf sort result }
+    ensures { result ≡ text_said decimals sort line.now }
 {
     let Ok(text) = str::from_utf8(line) else {
         return Err(RecordFault::NoText);

@@ -105,11 +105,8 @@ impl Board {
     /// board's. The history must continue the published one, and have fewer than 2^22 entries. If that had
     /// ended, history and phase must be the same.
     pub fn publish(&self, publisher: &mut Publisher, history: &[Entry], growths: u32, phase: Phase)
-        requires board { publisher.old.board ≡ self.now }
-        requires goes_on { IsPrefix publisher.old.entries history.now }
-        requires short { length history.now < 2 ^ 22 }
+        requires may { MayPublish publisher.old self.now history.now phase }
         requires counted { growths ≡ length (growths_of history.now) }
-        requires ended { publisher.old.phase ≢ Phase.Running → (history.now ≡ publisher.old.entries) × (phase ≡ publisher.old.phase) }
         ensures { publisher.new ≡ record publisher.old { entries = history.now; phase = phase } }
     {
         let progress = Progress {
@@ -130,11 +127,8 @@ impl Board {
         growths: u32,
         phase: Phase,
     )
-        requires board { publisher.old.board ≡ self.now }
-        requires goes_on { IsPrefix publisher.old.entries (H.entries kept.now) }
-        requires short { length (H.entries kept.now) < 2 ^ 22 }
+        requires may { MayPublish publisher.old self.now (H.entries kept.now) phase }
         requires counted { growths ≡ length (growths_of (H.entries kept.now)) }
-        requires ended { publisher.old.phase ≢ Phase.Running → (H.entries kept.now ≡ publisher.old.entries) × (phase ≡ publisher.old.phase) }
         ensures { publisher.new ≡ record publisher.old { entries = H.entries kept.now; phase = phase } }
     {
         let progress = Progress {

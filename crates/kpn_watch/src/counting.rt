@@ -60,36 +60,19 @@ impl CountingPublisher {
     /// Publishes a history and its end, if any, on the publisher's board. The history must continue the
     /// published one, and have fewer than 2^22 entries. If that had ended, history and end must be the same.
     pub fn publish(&mut self, board: &Board, history: &[Entry], ended: Option<End>)
-        requires board { self.old.board ≡ board.now }
-        requires goes_on { IsPrefix self.old.entries history.now }
-        requires short { length history.now < 2 ^ 22 }
-        requires ended { self.old.phase ≢ Phase.Running → (history.now ≡ self.old.entries) × (phase_of ended ≡ self.old.phase) }
+        requires { MayPublish self.old board.now history.now (phase_of ended) }
         ensures { self.new ≡ record self.old { entries = history.now; phase = phase_of ended } }
     {
         let more = growths_in(&history[self.entries..]);
         let growths = self.growths as usize + more;
-        self.publish_counted(board, history, growths, ended);
-    }
-
-    /// Publishes a history like `publish`, with a known number of growths, in constant time.
-    pub fn publish_counted(
-        &mut self,
-        board: &Board,
-        history: &[Entry],
-        growths: usize,
-        ended: Option<End>,
-    )
-        requires may { MayPublish self.old board.now history.now (phase_of ended) }
-        requires counted { growths ≡ length (growths_of history.now) }
-        ensures { self.new ≡ record self.old { entries = history.now; phase = phase_of ended } }
-    {
         self.growths = growths as u32;
         self.entries = history.len();
         self.phase = Phase::of_end(ended);
         board.publish(&mut self.publisher, history, self.growths, self.phase);
     }
 
-    /// Publishes kept entries and their end, if any, like `publish_counted`, in constant time.
+    /// Publishes kept entries and their end, if any, like `publish`, with a known number of growths, in constant
+    /// time.
     pub fn publish_kept<H: Keeper>(
         &mut self,
         board: &Board,

@@ -3,8 +3,8 @@
 //! ```text
 //! let (board, mut publisher) = Board::new(rt.alloc())?;
 //! let mut watcher = board.split(&mut publisher)?;
-//! board.publish(publisher, &[put], 0, Phase::Running);
-//! let early = board.look(watcher);
+//! board.publish(&mut publisher, &[put], 0, Phase::Running);
+//! let early = board.look(&mut watcher);
 //! board.join(watcher, &mut publisher);
 //! ```
 //!

@@ -3,7 +3,7 @@ use crate::checks::same;
 use kpn_compute::Both;
 use kpn_compute::both::{is_first, own_card};
 use kpn_net::{Card, Check, End, Kinds, Listed, Net, Place, Text, Token, read_sketch};
-use kpn_picture::{Direction, Left, Style, Titled, is_jammed, picture_of};
+use kpn_picture::{Direction, Left, Style, Titled, below, is_jammed, picture_of};
 use kpn_signals::Signals;
 use kpn_standard::Standard;
 use std::alloc::Global;
@@ -366,4 +366,14 @@ fn knows_the_titles_of_signals(rt: HostRuntime) {
     };
     let found = title_of::<Signals>(below);
     same(&rt, "below 0", found, Some(("constant", 1)));
+}
+
+/// The card of `clip` from -5 to 9, whose first argument alone is below 0.
+#[test]
+fn tells_how_many_arguments_are_below_0(rt: HostRuntime) {
+    let card = Card {
+        kind: 20,
+        args: [4, 9, 1],
+    };
+    same(&rt, "below 0", [below(&card, 2), below(&card, 3)], [1, 0]);
 }

@@ -1,5 +1,4 @@
 //! Answers that a machine did not ask for.
-ghost use Rattle.std.specs.Prelude.{IsSome, None};
 ghost use Rattle.kpn_machine.specs.MachineView.{IsOut};
 
 use crate::checks::same;
@@ -12,21 +11,14 @@ use crate::networks::{COUNTER, SINK_OF_THREE};
 use kpn_body::{Body, Finished, Task};
 use kpn_compute::{CardBody, Computes};
 use kpn_machine::Outcome::{Done, Parked};
-use kpn_net::{Card, Kinds, Local};
+use kpn_net::Kinds;
 use std::alloc::Global;
 use std::process::Abort;
 
-fn start_of<K: Kinds>(card: Card) -> Local
-    requires { IsSome (K.signature card) }
-    ensures { K.admits card result None }
-{
+fn unsent<K: Computes>(body: CardBody<K>) -> Task<CardBody<K>> {
+    let card = body.card();
     let start = K::start(&card);
     K::starts(card);
-    start
-}
-
-fn unsent<K: Computes>(body: CardBody<K>) -> Task<CardBody<K>> {
-    let start = start_of::<K>(body.card());
     Task::new(0, body, start, None)
 }
 

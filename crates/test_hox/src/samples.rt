@@ -152,19 +152,14 @@ fn compare_output<R: Abort>(rt: &R, told: &Told, tokens: &[Token]) {
     same(rt, "y", y.tokens.as_slice(), tokens);
 }
 
-fn tells<R: AllocGlobal + Wait + Clock + Threads + Abort + Sync>(rt: &R, workers: usize)
-    requires { (1 ≤ workers) × (workers ≤ 16) }
-{
-    let request = asked(rt, rt.alloc(), "1, first\n0x10", workers);
-    let told = told_of(rt, COPY, &request, &Silent);
-    compare_report(rt, &told, 0, COPY_LINES);
-    compare_output(rt, &told, &[Token::Word(1), Token::Word(16)]);
-}
-
 #[test]
 fn words_of_a_file_go_through(rt: HostRuntime) {
-    tells(&rt, 1);
-    tells(&rt, 2);
+    for workers in 1..=2usize {
+        let request = asked(&rt, rt.alloc(), "1, first\n0x10", workers);
+        let told = told_of(&rt, COPY, &request, &Silent);
+        compare_report(&rt, &told, 0, COPY_LINES);
+        compare_output(&rt, &told, &[Token::Word(1), Token::Word(16)]);
+    }
 }
 
 #[test]
@@ -245,39 +240,24 @@ impl ProgressReceiver for Listener {
     }
 }
 
-fn shown<R: Abort>(rt: &R, alloc: Global, workers: usize) -> Request
-    ensures { result.workers ≡ workers }
-{
-    let mut request = plain(alloc, workers);
-    request.show = streams_as(rt, alloc, &["a", "a"]);
-    request
-}
-
-/// Returns how often the listener was told something, and the last number of entries.
-fn is_cut<R: AllocGlobal + Wait + Clock + Threads + Abort + Sync>(
-    rt: &R,
-    workers: usize,
-) -> (u64, u64)
-    requires { (1 ≤ workers) × (workers ≤ 16) }
-{
-    let request = shown(rt, rt.alloc(), workers);
-    let listener = Listener {
-        told: AtomicU64::new(0),
-        entries: AtomicU64::new(0),
-    };
-    let told = told_of(rt, LOOP, &request, &listener);
-    compare_report(rt, &told, 3, LOOP_LINES);
-    (
-        listener.told.load(Ordering::SeqCst),
-        listener.entries.load(Ordering::SeqCst),
-    )
-}
-
+/// One worker tells of all three entries, once; two may tell more often.
 #[test]
 fn a_run_that_is_cut_tells_what_it_has(rt: HostRuntime) {
-    let told = is_cut(&rt, 1);
-    same(&rt, "told", told, (1, 3));
-    let _ = is_cut(&rt, 2);
+    for workers in 1..=2usize {
+        let mut request = plain(rt.alloc(), workers);
+        request.show = streams_as(&rt, rt.alloc(), &["a", "a"]);
+        let listener = Listener {
+            told: AtomicU64::new(0),
+            entries: AtomicU64::new(0),
+        };
+        let told = told_of(&rt, LOOP, &request, &listener);
+        compare_report(&rt, &told, 3, LOOP_LINES);
+        let told = listener.told.load(Ordering::SeqCst);
+        let entries = listener.entries.load(Ordering::SeqCst);
+        if workers == 1 {
+            same(&rt, "told", (told, entries), (1, 3));
+        }
+    }
 }
 
 /// Words of a file are added to an endless source's.

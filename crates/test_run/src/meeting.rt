@@ -8,9 +8,9 @@ use crate::due::{COUNTER_ENDS, Due, READY_CHAIN_ENDS};
 use crate::networks::{Parts, network};
 use crate::runs::{finish_of, run_bodies};
 use kpn_body::{Call, Standard, StandardBody, answer};
-use kpn_net::{Answer, Card, End, Kinds, Local, Net, Token};
+use kpn_net::{Answer, End, Local, Net, Token};
 use kpn_run::Open;
-use std::alloc::{AllocError, Global};
+use std::alloc::Global;
 use std::process::Abort;
 use std::rt::Clock;
 use std::sync::atomic::{AtomicU64, Ordering};
@@ -96,29 +96,6 @@ impl Calls {
     }
 }
 
-fn meeting_body(
-    alloc: Global,
-    card: Card,
-    times: Times,
-    side: Side,
-    calls: Arc<Calls>,
-) -> Result<StandardBody, AllocError>
-    requires { IsSome (signature card) }
-{
-    let call: Call = Box::new(
-        alloc,
-        move |local: Local, last: Option<Token>| -> Answer
-            requires signed { IsSome (signature card) }
-            requires admitted { Admitted card local last }
-            ensures { result ≡ standard.answer card local last }
-        {
-            meet(times, side, &calls);
-            answer(card, local, last)
-        },
-    )?;
-    Ok(StandardBody::new(card, call))
-}
-
 fn side_of(meeting: Meeting, process: usize) -> Side {
     if process == meeting.left {
         Side::Left
@@ -139,13 +116,22 @@ fn meeting_bodies<R: Abort>(
     let mut bodies = Vec::new(alloc);
     for process in 0..net.processes() {
         let card = net.card(process);
-        let side = side_of(meeting, process);
-        if Standard::signature(&card).is_some() {
-            let calls = Arc::try_clone(calls).expect(rt, "no memory");
-            let body = meeting_body(alloc, card, meeting.times, side, calls);
-            let body = body.expect(rt, "no memory");
-            bodies.push(body).expect(rt, "no memory");
-        }
+        let (times, side) = (meeting.times, side_of(meeting, process));
+        let calls = Arc::try_clone(calls).expect(rt, "no memory");
+        let call: Call = Box::new(
+            alloc,
+            move |local: Local, last: Option<Token>| -> Answer
+                requires signed { IsSome (signature card) }
+                requires admitted { Admitted card local last }
+                ensures { result ≡ standard.answer card local last }
+            {
+                meet(times, side, &calls);
+                answer(card, local, last)
+            },
+        )
+        .expect(rt, "no memory");
+        let body = StandardBody::new(card, call);
+        bodies.push(body).expect(rt, "no memory");
     }
     bodies
 }

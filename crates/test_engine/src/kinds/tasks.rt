@@ -1,15 +1,10 @@
-//! Tasks of standard bodies: their readers, and two lines of the table of kinds.
-ghost use Rattle.std.specs.Prelude.{◌≡◌, IsSome};
-ghost use Rattle.kpn_standard.specs.Standard.{standard};
-ghost use Rattle.kpn_standard.specs.Signatures.{signature};
-ghost use Rattle.kpn_standard.specs.Admitted.{Admitted};
-
+//! Tasks of bodies of standard cards: their readers, and two lines of the table of kinds.
 use crate::checks::same;
-use kpn_body::{Body, StandardBody, Task, answer};
+use kpn_body::{Body, Standard, Task};
+use kpn_compute::CardBody;
 use kpn_model::Act::Write;
 use kpn_model::Token::Word;
 use kpn_model::{Answer, Card, Kinds, Local, Token};
-use std::alloc::Global;
 use std::process::Abort;
 
 /// Tasks of process 5, called whole and in parts, give this answer and keep what they were made of.
@@ -45,31 +40,13 @@ fn asked<B: Body>(rt: &impl Abort, body: B, local: Local, last: Option<Token>, e
     same(rt, "body", body.card(), card);
 }
 
-fn body_of(rt: &impl Abort, alloc: Global, card: Card) -> StandardBody
-    requires signed { IsSome (signature card) }
-    ensures { result.card ≡ card }
-{
-    let call = Box::new(
-        alloc,
-        move |local: Local, last: Option<Token>| -> Answer
-            requires signed { IsSome (signature card) }
-            requires admitted { Admitted card local last }
-            ensures { result ≡ standard.answer card local last }
-        { answer(card, local, last) },
-    );
-    let Ok(call) = call else {
-        panic!(rt; "no memory");
-    };
-    StandardBody::new(card, call)
-}
-
 #[test]
 fn count_from_one_writes_two(rt: HostRuntime) {
     let card = Card {
         kind: 0,
         args: [1, 3, 0],
     };
-    let made = body_of(&rt, rt.alloc(), card);
+    let made = CardBody::<Standard>::new(card);
     let expected = Answer {
         next: [2, 0, 0, 0],
         act: Write(0, Word(2)),
@@ -83,7 +60,7 @@ fn copy_writes_what_it_read(rt: HostRuntime) {
         kind: 3,
         args: [0; 3],
     };
-    let made = body_of(&rt, rt.alloc(), card);
+    let made = CardBody::<Standard>::new(card);
     let expected = Answer {
         next: [2, 7, 0, 0],
         act: Write(0, Word(7)),
@@ -105,7 +82,7 @@ fn count_from_its_start_writes_one(rt: HostRuntime) {
         kind: 0,
         args: [1, 3, 0],
     };
-    let made = body_of(&rt, rt.alloc(), card);
+    let made = CardBody::<Standard>::new(card);
     let expected = Answer {
         next: [1, 0, 0, 0],
         act: Write(0, Word(1)),

@@ -167,12 +167,25 @@ fn compare_found<R: Abort>(rt: &R, net: &Net<CountAndSink>) {
     );
 }
 
+/// Compares the names in the lists of processes and channels.
+fn compare_lists<R: Abort>(rt: &R, net: &Net<CountAndSink>) {
+    let (processes, channels) = (net.process_list(), net.channel_list());
+    assert!(rt; processes.len() == 2 && channels.len() == 1);
+    let names = [
+        processes[0].name.as_str(),
+        processes[1].name.as_str(),
+        channels[0].name.as_str(),
+    ];
+    same(rt, "lists", names, ["src", "snk", "c0"]);
+}
+
 #[test]
 fn describes_a_counter_into_a_sink(rt: HostRuntime) {
     let sketch = sketch_of(&rt, rt.alloc(), COUNTER);
     let net = net_of(&rt, rt.alloc(), &sketch);
     compare_counter(&rt, &net);
     compare_found(&rt, &net);
+    compare_lists(&rt, &net);
     drop(net);
     drop(sketch);
 }

@@ -1,7 +1,8 @@
 //! Lines of flip, a scale by three, and the first answers of a counter and a sink.
 use crate::checks::same;
-use crate::examples::flips::run_flips;
+use crate::examples::flips::{FlipsRequest, run_flips};
 use example_own_kinds::{Flips, first_answers, flip_answer, line_of, scale_answer};
+use kpn_machine::cards_of;
 use kpn_net::Act::{Read, Write};
 use kpn_net::Token::{Flag, Word};
 use kpn_net::{Act, Answer, Check, Kinds, Local, Net, read_sketch};
@@ -106,7 +107,13 @@ fn compare_loop<R: Threads + Wait + Clock + Abort + Sync>(
     out: &mut Vec<u8>,
 ) {
     let net: Net<Flips> = network(rt, alloc, FLIP_LOOP);
-    let ran = run_flips(rt, alloc, net, "c0", out);
+    let cards = cards_of(alloc, &net).expect(rt, "no memory");
+    let request = FlipsRequest {
+        cards: cards.as_slice(),
+        net: Some(net),
+        show: Some("c0"),
+    };
+    let ran = run_flips(rt, alloc, request, out);
     same(rt, "status", ran.expect(rt, "no memory"), 5);
     same(rt, "lines", out.as_slice(), FLIP_LINES.as_bytes());
 }

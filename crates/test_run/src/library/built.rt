@@ -1,6 +1,6 @@
 //! Built networks, and sketches as texts.
 use crate::checks::same;
-use kpn_builder::{Builder, NewChannel, TextFault, sketch_message, to_toml};
+use kpn_builder::{Builder, NewChannel, TextFault, to_toml};
 use kpn_net::{Check, Net, NetFault, Sort, Token, TokenSketch, read_sketch};
 use kpn_standard::Standard;
 use std::alloc::Global;
@@ -104,7 +104,7 @@ fn faults_are_told_by_name(rt: HostRuntime) {
     let message = made.message::<Standard>(NetFault::Kind, KINDS);
     let due = "process \"src\": unknown kind \"cuont\"; the kinds are count and sink";
     same(&rt, "kind", message.as_deref(), Some(due));
-    let none = sketch_message::<Standard>(alloc, made.sketch(), NetFault::Memory, KINDS);
+    let none = made.message::<Standard>(NetFault::Memory, KINDS);
     same(&rt, "memory", none.as_deref(), None);
     drop(made);
 }

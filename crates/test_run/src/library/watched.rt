@@ -7,7 +7,8 @@ use kpn_machine::Standing;
 use kpn_model::{Answer, Card, Kinds, Local, Token};
 use kpn_net::{End, Net};
 use kpn_observe::{
-    Observer, Phase, Progress, WatchedFault, WatchedRun, Wish, chronicle_report, run_watched,
+    Observer, Phase, Progress, RunFault, WatchedFault, WatchedRun, Wish, chronicle_report,
+    run_watched,
 };
 use kpn_report::text_of;
 use kpn_run::{Gate, Open, Prompt, stream_of};
@@ -159,7 +160,7 @@ fn nothing_runs_if_the_observer_stops_at_once(rt: HostRuntime) {
 fn seventeen_workers_are_refused(rt: HostRuntime) {
     let witness = Witness::new(0);
     let ran = watch(&rt, rt.alloc(), 17, &witness);
-    let Err(WatchedFault::Workers { .. }) = ran else {
+    let Err(WatchedFault::Failed(RunFault::Workers { .. })) = ran else {
         panic!(rt; "not refused");
     };
     same(&rt, "asked", witness.asked.load(Ordering::SeqCst), 0);

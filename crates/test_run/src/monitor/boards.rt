@@ -42,26 +42,22 @@ static SEEN: [Progress; 3] = [
     },
 ];
 
-fn looks_between(board: &Board, publisher: &mut Publisher, watcher: &mut Watcher) -> [Progress; 3]
-    requires publisher { (publisher.old.board ≡ board.now) × (publisher.old.entries ≡ []) × (publisher.old.phase ≡ Phase.Running) }
-    requires watcher { watcher.old.board ≡ board.now }
-    ensures publisher { publisher.new.board ≡ board.now }
-    ensures watcher { watcher.new.board ≡ board.now }
-{
-    let put = put(1);
-    let grew = Entry::Grew { channel: 0, to: 2 };
-    let nothing = board.look(watcher);
-    board.publish(publisher, &[put], 0, Phase::Running);
-    let early = board.look(watcher);
-    board.publish(publisher, &[put, grew, stopped(1)], 1, Phase::Terminated);
-    [nothing, early, board.look(watcher)]
-}
-
 #[test]
 fn a_look_shows_a_growth(rt: HostRuntime) -> Result<(), Fail> {
     let (board, mut publisher) = Board::new(rt.alloc())?;
     let mut watcher = board.split(&mut publisher)?;
-    let seen = looks_between(&board, &mut publisher, &mut watcher);
+    let put = put(1);
+    let grew = Entry::Grew { channel: 0, to: 2 };
+    let nothing = board.look(&mut watcher);
+    board.publish(&mut publisher, &[put], 0, Phase::Running);
+    let early = board.look(&mut watcher);
+    board.publish(
+        &mut publisher,
+        &[put, grew, stopped(1)],
+        1,
+        Phase::Terminated,
+    );
+    let seen = [nothing, early, board.look(&mut watcher)];
     board.join(watcher, &mut publisher);
     same(&rt, "seen", seen, SEEN);
     Ok(())

@@ -32,7 +32,10 @@ pub(crate) fn opening_of<R: Abort>(
     text: &str,
 ) -> Opening<CardBody<Standard>> {
     let Parts { net, bodies } = parts_of(rt, alloc, text);
-    locked(rt, alloc, opened(rt, alloc, net, bodies))
+    let Ok(opening) = Opening::new(alloc, opened(rt, alloc, net, bodies)) else {
+        panic!(rt; "no opening");
+    };
+    opening
 }
 
 pub(crate) fn opened<B: Body, R: Abort>(
@@ -47,15 +50,6 @@ pub(crate) fn opened<B: Body, R: Abort>(
         panic!(rt; "no machine");
     };
     machine
-}
-
-pub(crate) fn locked<B: Body, R: Abort>(rt: &R, alloc: Global, machine: Machine<B>) -> Opening<B>
-    requires { IsFresh machine }
-{
-    let Ok(opening) = Opening::new(alloc, machine) else {
-        panic!(rt; "no opening");
-    };
-    opening
 }
 
 pub(crate) fn two_seats<E: EntryLedger, O: Ledger, R: Abort>(

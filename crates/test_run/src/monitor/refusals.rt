@@ -6,9 +6,7 @@ ghost use Rattle.kpn_machine.specs.MachineView.{IsFresh};
 ghost use Rattle.kpn_monitor.specs.Views.{AreNamesOf};
 
 use crate::checks::same;
-use crate::monitor::monitors::{
-    Ended, close_with, ended_of, locked, opened, watcher_of, work_alone,
-};
+use crate::monitor::monitors::{Ended, close_with, ended_of, opened, watcher_of, work_alone};
 use crate::networks::{Parts, parts_or_refused};
 use kpn_body::Body;
 use kpn_machine::{Machine, OpenFault, OpenRefused};
@@ -86,7 +84,10 @@ fn opening_again<B: Body, R: Abort>(
         Ok(opening) => (opening, Refused::Nothing),
         Err(machine) => {
             same(rt, "fresh", machine.is_fresh(), true);
-            (locked(rt, alloc, machine), Refused::Opening)
+            let Ok(opening) = Opening::new(alloc, machine) else {
+                panic!(rt; "no opening");
+            };
+            (opening, Refused::Opening)
         }
     }
 }

@@ -1,11 +1,11 @@
-use Rattle.std.proofs.Common.{ap, Some, None, sym, ◌∙◌, ◌≤◌, length, arith}
+use Rattle.std.proofs.Common.{None, ◌∙◌, ◌≤◌, length, arith}
 use Rattle.kpn_standard.specs.Standard.{standard}
-use Rattle.kpn_body.proofs.Cards.{one_more}
+use Rattle.kpn_body.proofs.Cards.{one_more_card}
 use Rattle.example_own_kinds.proofs.AnswersOfAll.{answers_of_all}
 use Rattle.example_own_kinds.proofs.bodies.first_answers.Goals as goal
 
 pub loop-process-preserved : goal.loop-process-preserved
-loop-process-preserved c = one_more (λ b. b.card) _ _ _ _ c.new-in-loop-process.result c.loop-process.invariant c.in_ok-push.ensures.items (c.signed_card-card.ensures.is ∙ ap (λ x. Some x) (sym c.new-in-loop-process.ensures))
+loop-process-preserved c = one_more_card (λ b. b.card) _ _ _ _ c.new-in-loop-process.result c.loop-process.invariant c.in_ok-push.ensures.items (omega arith) (c.new-in-loop-process.ensures ∙ c.card-card.ensures.is)
 
 pub returns : goal.returns
 returns c =

@@ -1,7 +1,7 @@
 -- The picture is that of the run's report, and the report is the run's own and that of each run.
 use Rattle.std.proofs.Common.{sym, ◌∙◌}
 use Rattle.kpn_model.specs.Network.{family_of}
-use Rattle.kpn_run.proofs.RunReports.{own_report, every_runs, over_of}
+use Rattle.kpn_run.proofs.RunReports.{own_report, every_runs, is_final}
 use Rattle.kpn_execute.proofs.Telling.{justified_by}
 use Rattle.hox_draw.proofs.Pictures.{own_picture, every_picture}
 use Rattle.hox_draw.proofs.running.picture_of_run.Goals as goal
@@ -22,7 +22,7 @@ returns g c =
     (rw (c.net-net.ensures, c.standings.ensures) at c.in_ok-places.ensures)
     (rw (c.net-net.ensures, c.history.ensures) at (c.in_ok-report.ensures.detail kinds s.state)) in
     let justified = justified_by kinds g.K.Kinds.admits s cause faithful ended in
-    let every = every_runs kinds s.network s.history s.state cause detail own (λ has. record { run = faithful.run; over = over_of kinds s.network cause s.history s.state has justified }) c.determinacy_of.ensures.one_digest in
+    let every = every_runs kinds s.network s.history s.state cause detail own (is_final kinds g.K.Kinds.admits s cause faithful ended) c.determinacy_of.ensures.one_digest in
     let drawn = rw (c.net-net.ensures, c.in_ok-report.ensures.end) at c.in_ok-picture.ensures in
     record {
       history = s.history;

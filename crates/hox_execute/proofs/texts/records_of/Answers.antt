@@ -8,7 +8,7 @@ use Rattle.hox_execute.proofs.texts.records_of.Goals as goal
 pub returns-in-Ok : goal.returns-in-Ok
 returns-in-Ok c =
     let text = flat_map (record_text c.args.layout) c.args.tokens.now in
-    let all = all_fitting c.args.layout c.args.tokens.now (all_fit c.args.layout c.args.tokens.now c.in-Ok.field-0 c.in-Ok.ensures.clipped c.in-Ok.ensures.unclipped) in
+    let all = all_fitting c.args.layout c.args.tokens.now (all_fit c.args.layout c.args.tokens.now c.in-Ok.field-0 c.in-Ok.ensures.counted.all c.in-Ok.ensures.counted.unclipped) in
     c.in-Ok.ensures.appends ∙ ap (λ (l : List ℕ). l ++ text) c.new-text.ensures.items ∙ ap (flat_map (record_text c.args.layout)) (sym all)
 
 pub returns-in-Err-DoesNotFit : goal.returns-in-Err-DoesNotFit

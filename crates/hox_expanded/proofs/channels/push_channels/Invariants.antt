@@ -1,7 +1,7 @@
-use Rattle.std.proofs.Common.{◌≡◌, ◌++◌, string_bytes}
-use Rattle.kpn_model.specs.texts.Reports.{lines_upto}
+use Rattle.std.proofs.Common.{◌≡◌, ◌++◌, string_bytes, take}
+use Rattle.std.specs.List.{flat_map}
 use Rattle.hox_expanded.specs.Description.{channel_line}
 use Rattle.hox_expanded.proofs.channels.push_channels.Given as goal
 
-abbrev pub invariant-loop-c : goal.invariant-loop-c
-invariant-loop-c g l = string_bytes l.out ≡ string_bytes l.initial.out ++ lines_upto (channel_line l.net) l.c
+abbrev pub invariant-loop-channel : goal.invariant-loop-channel
+invariant-loop-channel g l = string_bytes l.out ≡ string_bytes l.initial.out ++ flat_map (channel_line l.net) (take l.channel-index l.channels)

@@ -2,8 +2,14 @@
 use Rattle.std.proofs.Common.{Ok, Err, refl}
 use Rattle.hox_network.proofs.preparing.prepare.Goals as goal
 
-pub returns-in-Ok-clause-served : goal.returns-in-Ok-clause-served
-returns-in-Ok-clause-served g c = record { loaded = Ok c.in-Ok.net; loads = c.in-Ok.ensures.loads; failed = c.in-Ok.ensures.failed; comes = c.prepare_net.ensures }
+pub returns-in-Ok : goal.returns-in-Ok
+returns-in-Ok g c = record {
+  served = record { loaded = Ok c.in-Ok.net; loads = c.in-Ok.ensures.loads; failed = c.in-Ok.ensures.failed; comes = c.prepare_net.ensures };
+  taken = c.in-Ok.ensures.taken;
+}
 
-pub returns-in-Err-clause-served : goal.returns-in-Err-clause-served
-returns-in-Err-clause-served g c = record { loaded = Err c.in-Err.refused.fault; loads = c.in-Err.ensures.loads; failed = c.in-Err.ensures.failed; comes = refl }
+pub returns-in-Err : goal.returns-in-Err
+returns-in-Err g c = record {
+  served = record { loaded = Err c.in-Err.refused.fault; loads = c.in-Err.ensures.loads; failed = c.in-Err.ensures.failed; comes = refl };
+  taken = c.in-Err.ensures.taken;
+}

@@ -6,8 +6,5 @@ use Rattle.hox_network.proofs.preparing.prepare_parts.Goals as goal
 pub returns-clause-ok : goal.returns-clause-ok
 returns-clause-ok g c = search rules
 
-pub returns-clause-valid : goal.returns-clause-valid
-returns-clause-valid g c = grind (arith, common_steps)
-
 pub returns-then-not-set_budget-clause-fault : goal.returns-then-not-set_budget-clause-fault
 returns-then-not-set_budget-clause-fault g c = grind (arith, common_steps)

@@ -4,7 +4,4 @@ use Rattle.std.proofs.lemmas.Grind.{common_steps}
 use Rattle.hox_network.proofs.presets.set_budget.Goals as goal
 
 pub returns-then-budget-lt1-clause-no : goal.returns-then-budget-lt1-clause-no
-returns-then-budget-lt1-clause-no g c = search rules
-
-pub returns-clause-valid : goal.returns-clause-valid
-returns-clause-valid g c = grind (arith, common_steps)
+returns-then-budget-lt1-clause-no c = search rules

@@ -7,8 +7,8 @@ use Rattle.hox_run.proofs.files.fitted.Goals as goal
 
 pub returns-in-Ok : goal.returns-in-Ok
 returns-in-Ok c =
-    let count = subst (λ l. c.in-Ok.clipped ≡ misfits c.args.layout l) c.as_slice.ensures.value c.in-Ok.ensures.clipped in
-    whole_file c.args.layout c.args.tokens.items c.new.result c.in-Ok.clipped c.new.ensures count c.in-Ok.ensures.unclipped
+    let count = subst (λ l. c.in-Ok.clipped ≡ misfits c.args.layout l) c.as_slice.ensures.value c.in-Ok.ensures.counted.all in
+    whole_file c.args.layout c.args.tokens.items c.new.result c.in-Ok.clipped c.new.ensures count c.in-Ok.ensures.counted.unclipped
 
 pub returns-in-Err : goal.returns-in-Err
 returns-in-Err c =

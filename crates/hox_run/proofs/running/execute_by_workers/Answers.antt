@@ -5,7 +5,7 @@ use Rattle.hox_run.proofs.running.execute_by_workers.Goals as goal
 
 pub unreachable-requires-in-Err-Open : goal.unreachable-requires-in-Err-Open
 unreachable-requires-in-Err-Open g c =
-    let misfit = c.run_with_keeper.ensures.open _ _ _ (c.in-Err-Open.is ∙ ap (λ x. Err x) c.in-Err-Open.field-0-is) in
+    let misfit = rw (c.in-Err-Open.is ∙ ap (λ x. Err x) c.in-Err-Open.field-0-is) at c.run_with_keeper.ensures.failed in
     not_refused _ _ _ c.requires.cards misfit.2 misfit.3
 
 pub returns-in-Ok : goal.returns-in-Ok

@@ -7,19 +7,19 @@ use Rattle.hox_stream.proofs.lane.fitting_of.Goals as goal
 
 pub returns-in-Ok-clause-tokens : goal.returns-in-Ok-clause-tokens
 returns-in-Ok-clause-tokens c =
-    let all = written_all c.args.layout c.args.tokens.now (all_written c.args.layout c.args.tokens.now c.in-Ok.clipped c.in-Ok.ensures.clipped c.in-Ok.ensures.unclipped) in
+    let all = written_all c.args.layout c.args.tokens.now (all_written c.args.layout c.args.tokens.now c.in-Ok.clipped c.in-Ok.ensures.counted.all c.in-Ok.ensures.counted.unclipped) in
     take_all (length c.args.tokens.now) c.args.tokens.now (omega arith) ∙ sym all
 
 pub returns-in-Ok-clause-count : goal.returns-in-Ok-clause-count
 returns-in-Ok-clause-count c =
-    let all = written_all c.args.layout c.args.tokens.now (all_written c.args.layout c.args.tokens.now c.in-Ok.clipped c.in-Ok.ensures.clipped c.in-Ok.ensures.unclipped) in
+    let all = written_all c.args.layout c.args.tokens.now (all_written c.args.layout c.args.tokens.now c.in-Ok.clipped c.in-Ok.ensures.counted.all c.in-Ok.ensures.counted.unclipped) in
     ap (λ (l : List Token). length l) (sym all)
 
 pub returns-in-Ok-clause-clipped : goal.returns-in-Ok-clause-clipped
-returns-in-Ok-clause-clipped c = clipped_all c.args.layout c.args.tokens.now c.in-Ok.clipped c.in-Ok.ensures.clipped c.in-Ok.ensures.unclipped
+returns-in-Ok-clause-clipped c = clipped_all c.args.layout c.args.tokens.now c.in-Ok.clipped c.in-Ok.ensures.counted.all c.in-Ok.ensures.counted.unclipped
 
 pub returns-in-Ok-clause-misfit : goal.returns-in-Ok-clause-misfit
-returns-in-Ok-clause-misfit c = ap not (sym (all_written c.args.layout c.args.tokens.now c.in-Ok.clipped c.in-Ok.ensures.clipped c.in-Ok.ensures.unclipped))
+returns-in-Ok-clause-misfit c = ap not (sym (all_written c.args.layout c.args.tokens.now c.in-Ok.clipped c.in-Ok.ensures.counted.all c.in-Ok.ensures.counted.unclipped))
 
 pub returns-in-Err-clause-tokens : goal.returns-in-Err-clause-tokens
 returns-in-Err-clause-tokens c =

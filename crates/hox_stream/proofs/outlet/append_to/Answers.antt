@@ -8,19 +8,19 @@ use Rattle.hox_stream.proofs.outlet.append_to.Goals as goal
 
 pub returns-in-Ok-clause-appended : goal.returns-in-Ok-clause-appended
 returns-in-Ok-clause-appended c =
-    let all = written_all c.args.layout c.args.tokens.now (all_written c.args.layout c.args.tokens.now c.in-Ok.clipped c.in-Ok.ensures.clipped c.in-Ok.ensures.unclipped) in
+    let all = written_all c.args.layout c.args.tokens.now (all_written c.args.layout c.args.tokens.now c.in-Ok.clipped c.in-Ok.ensures.counted.all c.in-Ok.ensures.counted.unclipped) in
     c.in-Ok.ensures.appends ∙ ap (λ (l : List Token). c.args.waiting.now.items ++ flat_map (record_text c.args.layout) l) (sym all)
 
 pub returns-in-Ok-clause-written : goal.returns-in-Ok-clause-written
 returns-in-Ok-clause-written c =
-    let all = written_all c.args.layout c.args.tokens.now (all_written c.args.layout c.args.tokens.now c.in-Ok.clipped c.in-Ok.ensures.clipped c.in-Ok.ensures.unclipped) in
+    let all = written_all c.args.layout c.args.tokens.now (all_written c.args.layout c.args.tokens.now c.in-Ok.clipped c.in-Ok.ensures.counted.all c.in-Ok.ensures.counted.unclipped) in
     ap (λ (l : List Token). length l) (sym all)
 
 pub returns-in-Ok-clause-clipped : goal.returns-in-Ok-clause-clipped
-returns-in-Ok-clause-clipped c = clipped_all c.args.layout c.args.tokens.now c.in-Ok.clipped c.in-Ok.ensures.clipped c.in-Ok.ensures.unclipped
+returns-in-Ok-clause-clipped c = clipped_all c.args.layout c.args.tokens.now c.in-Ok.clipped c.in-Ok.ensures.counted.all c.in-Ok.ensures.counted.unclipped
 
 pub returns-in-Ok-clause-misfit : goal.returns-in-Ok-clause-misfit
-returns-in-Ok-clause-misfit c = ap not (sym (all_written c.args.layout c.args.tokens.now c.in-Ok.clipped c.in-Ok.ensures.clipped c.in-Ok.ensures.unclipped))
+returns-in-Ok-clause-misfit c = ap not (sym (all_written c.args.layout c.args.tokens.now c.in-Ok.clipped c.in-Ok.ensures.counted.all c.in-Ok.ensures.counted.unclipped))
 
 pub returns-in-Err-DoesNotFit-clause-appended : goal.returns-in-Err-DoesNotFit-clause-appended
 returns-in-Err-DoesNotFit-clause-appended c =

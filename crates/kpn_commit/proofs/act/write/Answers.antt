@@ -2,8 +2,8 @@
 use Rattle.std.proofs.Common.{rules}
 use Rattle.kpn_commit.proofs.act.write.Goals as goal
 
-pub put-requires-clause-space : goal.put-requires-clause-space
-put-requires-clause-space g c = search rules
+pub put-requires : goal.put-requires
+put-requires g c = search rules
 
 pub returns-clause-does : goal.returns-clause-does
 returns-clause-does g c = search rules

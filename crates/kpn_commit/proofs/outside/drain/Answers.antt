@@ -15,11 +15,16 @@ wake-requires-clause-coherent g c κs within =
       waiting = rw c.drain-token.ensures.rest (same_capacities c.requires.coherent.waiting _ (λ d. capacity_kept M c.args.channel d (drop 1 (tokens M c.args.channel))));
     }
 
-pub returns-else-writer_waits-clause-coherent : goal.returns-else-writer_waits-clause-coherent
-returns-else-writer_waits-clause-coherent g c =
+pub returns-else-writer_waits-clause-wakes : goal.returns-else-writer_waits-clause-wakes
+returns-else-writer_waits-clause-wakes g c =
     let there : c.args.channel < length c.args.core.now.store.state.channels = omega (arith, c.requires.channel, c.requires.coherent.keeps.channels) in
     let M = c.args.core.now.store.state in
     record {
-      keeps = rw c.drain-token.ensures.rest (drained_unawaited c.requires.coherent.keeps c.requires.coherent.waiting.marks c.args.channel there (sym c.writer_waits.ensures ∙ c.if-writer_waits.false));
-      waiting = rw c.drain-token.ensures.rest (same_capacities c.requires.coherent.waiting _ (λ d. capacity_kept M c.args.channel d (drop 1 (tokens M c.args.channel))));
+      store = c.drain-token.ensures.rest;
+      coherent =
+          record {
+            keeps = rw c.drain-token.ensures.rest (drained_unawaited c.requires.coherent.keeps c.requires.coherent.waiting.marks c.args.channel there (sym c.writer_waits.ensures ∙ c.if-writer_waits.false));
+            waiting = rw c.drain-token.ensures.rest (same_capacities c.requires.coherent.waiting _ (λ d. capacity_kept M c.args.channel d (drop 1 (tokens M c.args.channel))));
+          };
+      none_sent = λ p out. out;
     }

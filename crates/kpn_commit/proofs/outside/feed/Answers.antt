@@ -15,11 +15,16 @@ wake-requires-clause-coherent g c κs within =
       waiting = rw c.feed.ensures (same_capacities c.requires.coherent.waiting _ (λ d. capacity_kept M c.args.channel d (tokens M c.args.channel ++ c.args.token ∷ [])));
     }
 
-pub returns-else-reader_waits-clause-coherent : goal.returns-else-reader_waits-clause-coherent
-returns-else-reader_waits-clause-coherent g c =
+pub returns-else-reader_waits : goal.returns-else-reader_waits
+returns-else-reader_waits g c =
     let there : c.args.channel < length c.args.core.now.store.state.channels = omega (arith, c.requires.channel, c.requires.coherent.keeps.channels) in
     let M = c.args.core.now.store.state in
     record {
-      keeps = rw c.feed.ensures (fed_unawaited c.requires.coherent.keeps c.requires.coherent.waiting.marks c.args.channel there c.args.token c.requires.sort (sym c.reader_waits.ensures ∙ c.if-reader_waits.false));
-      waiting = rw c.feed.ensures (same_capacities c.requires.coherent.waiting _ (λ d. capacity_kept M c.args.channel d (tokens M c.args.channel ++ c.args.token ∷ [])));
+      store = c.feed.ensures;
+      coherent =
+          record {
+            keeps = rw c.feed.ensures (fed_unawaited c.requires.coherent.keeps c.requires.coherent.waiting.marks c.args.channel there c.args.token c.requires.sort (sym c.reader_waits.ensures ∙ c.if-reader_waits.false));
+            waiting = rw c.feed.ensures (same_capacities c.requires.coherent.waiting _ (λ d. capacity_kept M c.args.channel d (tokens M c.args.channel ++ c.args.token ∷ [])));
+          };
+      none_sent = λ p out. out;
     }

@@ -86,7 +86,7 @@ returns g c =
                       let no_read : expected_by net p was ≡ None = rw (parked, w.in-Write.is) in
                       rw (w.core-is, w.unlist.ensures.marks)
                       (done_writing k p Ready there idle _ w.in-Some-out_of.written w.unlist.new.waiting.candidates (λ d _. refl) written no_read
-                      (rw w.tokens_and_capacity-capacity.ensures.capacity at w.unlist.ensures.pairs) (rw w.tokens_and_capacity-capacity.ensures.capacity at w.unlist.ensures.many) w.unlist.ensures.limit)
+                      (rw w.tokens_and_capacity-capacity.ensures.capacity at w.unlist.ensures.candidates.pairs) (rw w.tokens_and_capacity-capacity.ensures.capacity at w.unlist.ensures.candidates.many) w.unlist.ensures.candidates.limit)
                   | in-Write+in_default-out_of w ↦ absurd (none_some _ (rw (← w.from-in-Write.ensures, ← w.out_of.ensures.is, w.in_default-out_of.is) at (rw w.in-Write.is at possible).1))
                   | in-Stop w ↦
                       let no_write : awaited_by net p was ≡ None = rw (parked, w.in-Stop.is) in

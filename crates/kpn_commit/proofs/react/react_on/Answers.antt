@@ -1,5 +1,6 @@
 -- A deed, and the deed that it enables, of a process that is left as it stands.
-use Rattle.std.proofs.Common.{◌≡◌, ◌<◌, arith, length, length-set, refl, sym, ◌∙◌, set, true}
+use Rattle.std.proofs.Common.{◌≡◌, ◌<◌, ◌∷◌, [], arith, length, length-append, length-set, refl, sym, ◌∙◌, set, true}
+use Rattle.kpn_model.specs.declared.history.Entry.TheVariants.{Did}
 use Rattle.kpn_model.specs.Network.{family_of}
 use Rattle.kpn_state.specs.declared.standing.Standing.TheVariants.{Ready}
 use Rattle.kpn_state.specs.Standings.{standing, standing_after, is_busy}
@@ -22,12 +23,16 @@ advance_on-requires-after_bounds g c κs within =
 pub partner_waits-requires : goal.partner_waits-requires
 partner_waits-requires g c = has_mark c.requires.coherent.waiting.marks c.in_ok-deed.deed c.in_ok-deed.ensures.acts.channel
 
-pub resume-requires-clause-coherent : goal.resume-requires-clause-coherent
-resume-requires-clause-coherent g c κs within =
+pub resume-requires-after_bounds : goal.resume-requires-after_bounds
+resume-requires-after_bounds g c κs within =
     let did = c.in_ok-deed.ensures.acts in
     record {
-      keeps = keeps_left c.requires.process c.requires.busy (rw (← c.in-Some.ensures, did.ready) at did.keeps);
-      waiting = rw c.in_ok-deed.ensures.acts.entry (deed_waiting (family_of g.K.Kinds.start g.K.Kinds.answer_of) c.requires.coherent.waiting c.args.process c.args.answer.next c.in_ok-deed.deed);
+      coherent =
+          record {
+            keeps = keeps_left c.requires.process c.requires.busy (rw (← c.in-Some.ensures, did.ready) at did.keeps);
+            waiting = rw c.in_ok-deed.ensures.acts.entry (deed_waiting (family_of g.K.Kinds.start g.K.Kinds.answer_of) c.requires.coherent.waiting c.args.process c.args.answer.next c.in_ok-deed.deed);
+          };
+      room = let more = length-append c.args.core.now.store.history (Did c.args.process c.in_ok-deed.deed ∷ []) in rw did.entry (omega (arith, more, c.requires.room));
     }
 
 pub returns-then-resume-clause-reacts : goal.returns-then-resume-clause-reacts

@@ -1,5 +1,6 @@
 -- A deed, and the deed that it enables.
-use Rattle.std.proofs.Common.{◌≡◌, refl, sym, ◌∙◌}
+use Rattle.std.proofs.Common.{◌≡◌, ◌∷◌, [], arith, length-append, refl, sym, ◌∙◌}
+use Rattle.kpn_model.specs.declared.history.Entry.TheVariants.{Did}
 use Rattle.kpn_model.specs.Network.{family_of}
 use Rattle.kpn_commit.proofs.Waits.{acted_waiting, has_mark, others_blocked}
 use Rattle.kpn_commit.proofs.Keeping.{keeps_sparing, keeps_all, keeps_handed}
@@ -88,9 +89,13 @@ returns-then-not-partner_waits g c =
           };
     }
 
-pub resume-requires-clause-coherent : goal.resume-requires-clause-coherent
-resume-requires-clause-coherent g c κs within =
+pub resume-requires-after_bounds : goal.resume-requires-after_bounds
+resume-requires-after_bounds g c κs within =
     record {
-      keeps = rw (← c.in-Some-partner.ensures) at c.in-Some.ensures.keeps;
-      waiting = rw (c.in-Some.ensures.entry, c.in-Some.ensures.standing) (acted_waiting (family_of g.K.Kinds.start g.K.Kinds.answer_of) c.requires.coherent.waiting c.args.process c.args.answer.next c.in-Some.deed c.requires.process c.requires.busy);
+      coherent =
+          record {
+            keeps = rw (← c.in-Some-partner.ensures) at c.in-Some.ensures.keeps;
+            waiting = rw (c.in-Some.ensures.entry, c.in-Some.ensures.standing) (acted_waiting (family_of g.K.Kinds.start g.K.Kinds.answer_of) c.requires.coherent.waiting c.args.process c.args.answer.next c.in-Some.deed c.requires.process c.requires.busy);
+          };
+      room = let more = length-append c.args.core.now.store.history (Did c.args.process c.in-Some.deed ∷ []) in rw c.in-Some.ensures.entry (omega (arith, more, c.requires.room));
     }

@@ -21,7 +21,7 @@ returns-in-Put-clause-resumes g c =
       waiting =
           rw (e.entry, e.standing, c.in-Put.is, c.unlist.ensures.marks)
           (put_waiting kinds c.requires.coherent.waiting c.args.process c.in-Some.wanted (rw c.as_slice.ensures.value at c.in-Some.ensures.within) (rw c.as_slice.ensures.value at c.in-Some.ensures.some) c.in-Put.channel c.in-Put.token c.unlist.new.waiting.candidates (rw c.in-Put.is at e.is_deed)
-          (rw (c.tokens_and_capacity-capacity.ensures.capacity, e.entry, size) at c.unlist.ensures.pairs) (rw (c.tokens_and_capacity-capacity.ensures.capacity, e.entry, size) at c.unlist.ensures.many) c.unlist.ensures.limit);
+          (rw (c.tokens_and_capacity-capacity.ensures.capacity, e.entry, size) at c.unlist.ensures.candidates.pairs) (rw (c.tokens_and_capacity-capacity.ensures.capacity, e.entry, size) at c.unlist.ensures.candidates.many) c.unlist.ensures.candidates.limit);
     }
 
 pub returns-in-Took-clause-resumes : goal.returns-in-Took-clause-resumes

@@ -110,6 +110,6 @@ returns g c =
             waiting =
                 rw (did.entry, did.standing, c.in-Ok.ensures.ok, c.unlist.ensures.marks)
                 (waiting_after_put c.requires.coherent.keeps c.in-Some.channel c.in-Some.writer c.enlarged-to.result best.0 c.in-Some-parked.answer parked c.requires.coherent.waiting c.in-Some-advance.field-0 c.unlist.new.waiting.candidates
-                (rw c.tokens_and_capacity-capacity.ensures.capacity at c.unlist.ensures.pairs) (rw c.tokens_and_capacity-capacity.ensures.capacity at c.unlist.ensures.many) c.unlist.ensures.limit);
+                (rw c.tokens_and_capacity-capacity.ensures.capacity at c.unlist.ensures.candidates.pairs) (rw c.tokens_and_capacity-capacity.ensures.capacity at c.unlist.ensures.candidates.many) c.unlist.ensures.candidates.limit);
           };
     }

@@ -7,7 +7,7 @@ use Rattle.kpn_execute.proofs.execution.tell_by_workers.Goals as goal
 
 pub returns-in-Ok : goal.returns-in-Ok
 returns-in-Ok g c =
-    let same = ap (λ (s : MachineView). s.network) c.chronicle-chronicle.ensures ∙ c.in-Ok.ensures.run.finish.network in
+    let same = ap (λ (s : MachineView). s.network) (c.chronicle-chronicle.ensures ∙ c.deref.ensures.0) ∙ c.in-Ok.ensures.run.finish.network in
     written_of (λ s t told. inr (rw same at told)) c.say_told.ensures
 
 pub returns-in-Err-Memory : goal.returns-in-Err-Memory
@@ -18,5 +18,5 @@ returns-in-Err-Lost g c = written c.say_lost.ensures (inl (record { several = c.
 
 pub unreachable-requires-in-Err-Open : goal.unreachable-requires-in-Err-Open
 unreachable-requires-in-Err-Open g c =
-    let misfit = c.run_with_keeper.ensures.open _ _ _ (c.in-Err-Open.is ∙ ap (λ x. Err x) c.in-Err-Open.field-0-is) in
+    let misfit = rw (c.in-Err-Open.is ∙ ap (λ x. Err x) c.in-Err-Open.field-0-is) at c.run_with_keeper.ensures.failed in
     not_refused _ _ _ c.requires.cards misfit.2 misfit.3

@@ -5,8 +5,15 @@ use Rattle.kpn_machine.specs.Asking.{IsAsked}
 use Rattle.kpn_machine.proofs.AskedInTurn.{asked_moves, asked_more, bodies_stay}
 use Rattle.kpn_machine.proofs.asking.ask_ready.Goals as goal
 
-pub react_ready-is_ready-requires-clause-wants : goal.react_ready-is_ready-requires-clause-wants
-react_ready-is_ready-requires-clause-wants g c κs within = rw (c.question_to-last.ensures.status, c.answer-answer.ensures, c.question_to-last.ensures.card) refl
+pub react_ready-is_ready-requires-after_bounds : goal.react_ready-is_ready-requires-after_bounds
+react_ready-is_ready-requires-after_bounds g c κs within =
+    let before = c.loop-left.invariant in
+    record {
+      coherent = rw c.turn.ensures.same before.coherent;
+      wants = rw (c.question_to-last.ensures.status, c.answer-answer.ensures, c.question_to-last.ensures.card) refl;
+      ready = rw c.turn.ensures.same c.in-Some.ensures.some.ready;
+      room = omega (arith, c.if-entries-until.false, c.entries.ensures, before.limit, c.requires.room);
+    }
 
 pub loop-left-preserved : goal.loop-left-preserved
 loop-left-preserved g c =
@@ -16,7 +23,7 @@ loop-left-preserved g c =
     let one : IsAsked family g.B.Kinds.Kinds.admits c.args.net.now c.loop-left.core.store c.loop-left.core.standings reacts.0 c.react_ready-is_ready.new.core.store c.react_ready-is_ready.new.core.standings =
     record {
       process = c.in-Some.process;
-      ready = c.in-Some.ensures.some;
+      ready = c.in-Some.ensures.some.ready;
       answer = c.answer-answer.result;
       wanted = rw (c.question_to-last.ensures.status, c.answer-answer.ensures, c.question_to-last.ensures.card) refl;
       reacts = rw c.turn.ensures.same at reacts.1;

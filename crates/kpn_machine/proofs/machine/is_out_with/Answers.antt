@@ -10,8 +10,8 @@ returns-in-Ready g c = grind (arith, common_steps)
 pub returns-then-held-standings : goal.returns-then-held-standings
 returns-then-held-standings g c = grind (arith, common_steps)
 
-pub returns-then-same_local : goal.returns-then-same_local
-returns-then-same_local g c = grind (arith, common_steps)
+pub returns : goal.returns
+returns g c = grind (arith, common_steps)
 
 pub card-requires : goal.card-requires
 card-requires g c = (search sendable, (search sendable, grind arith))

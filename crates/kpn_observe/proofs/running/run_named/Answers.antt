@@ -1,28 +1,8 @@
--- What was closed is what the run left; an answer that was refused is handed back with its body.
-use Rattle.std.proofs.Common.{◌∙◌, ap, length, subst, sym}
-use Rattle.kpn_model.specs.Families.{family}
-use Rattle.kpn_machine.specs.MachineView.{MachineView, IsFaithful}
-use Rattle.kpn_machine.specs.Opening.{cards_of}
-use Rattle.kpn_run.specs.Refusals.{FailsOpened}
-use Rattle.kpn_run.proofs.Refusals.{lost_fails}
+-- The machine comes back as it was opened.
+use Rattle.std.proofs.Common.{subst}
+use Rattle.kpn_machine.specs.MachineView.{MachineView}
+use Rattle.kpn_run.specs.Refusals.{LacksMemory}
 use Rattle.kpn_observe.proofs.running.run_named.Goals as goal
 
 pub returns-in-Err-clause-failed : goal.returns-in-Err-clause-failed
-returns-in-Err-clause-failed g c =
-    let none = c.no_memory.ensures in
-    let same = c.in-Err.ensures.back in
-    subst (λ f. FailsOpened g.B.Body.card c.args.opening.machine.network f) (sym c.not_run.ensures)
-    (none.net ∙ ap (λ (s : MachineView). s.network) same, none.cards ∙ ap (λ (s : MachineView). cards_of s.network.processes) same, none.fault)
-
-pub returns-in-Err-close-clause-failed : goal.returns-in-Err-close-clause-failed
-returns-in-Err-close-clause-failed g c = lost_fails g.B.Body.card c.args.opening.machine.network c.lost.result c.lost.ensures.not_run c.lost.ensures.lost
-
-pub returns-in-Ok-close-clause-closed : goal.returns-in-Ok-close-clause-closed
-returns-in-Ok-close-clause-closed g c =
-    let closed = c.in-Ok-close.ensures.closed in
-    let machine = c.of.ensures.0 in
-    record {
-      network = ap (λ (m : MachineView). m.network) machine ∙ closed.network;
-      faithful = subst (λ (m : MachineView). IsFaithful (family g.B.Kinds.Kinds) g.B.Kinds.Kinds.admits m) (sym machine) closed.faithful;
-      receipts = ap (λ (m : MachineView). length m.history) machine ∙ closed.receipts ∙ sym c.of.ensures.1;
-    }
+returns-in-Err-clause-failed g c = subst (λ (s : MachineView). LacksMemory g.B.Body.card s.network c.no_memory.result) c.in-Err.ensures.back c.no_memory.ensures

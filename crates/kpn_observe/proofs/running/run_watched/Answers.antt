@@ -19,3 +19,12 @@ returns-clause-room g c = IfOk-weaker c.run_watched_with_keeper.result _ _ (λ r
 
 pub returns-clause-streams : goal.returns-clause-streams
 returns-clause-streams g c = IfOk-weaker c.run_watched_with_keeper.result _ _ (λ r run. run.laws.streams) c.run_watched_with_keeper.ensures.run
+
+pub returns-clause-cards : goal.returns-clause-cards
+returns-clause-cards g c = c.run_watched_with_keeper.ensures.cards
+
+pub returns-clause-many : goal.returns-clause-many
+returns-clause-many g c = c.run_watched_with_keeper.ensures.many
+
+pub returns-clause-failed : goal.returns-clause-failed
+returns-clause-failed g c = c.run_watched_with_keeper.ensures.failed

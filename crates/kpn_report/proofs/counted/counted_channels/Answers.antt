@@ -7,7 +7,7 @@ use Rattle.kpn_report.proofs.counted.counted_channels.Goals as goal
 
 pub loop-c-preserved : goal.loop-c-preserved
 loop-c-preserved g c =
-    let counts : ChannelCounts = record { put = c.puts.result; taken = c.takes.result; capacity = c.capacity.result } in
+    let counts : ChannelCounts = record { put = c.put_and_taken-put.result.0; taken = c.put_and_taken-put.result.1; capacity = c.capacity.result } in
     let is : counts ≡ counts_of c.args.net.now c.args.tallied.now.entries c.loop-c.c = search rules in
     rw c.in_ok-push.ensures.items (record {
       count = omega (arith, length-append c.loop-c.channel_counts.items (counts ∷ []), c.loop-c.invariant.count);

@@ -1,8 +1,8 @@
 -- The bodies are those that were boxed.
-use Rattle.std.proofs.Common.{◌≡◌, ◌∙◌, ap, Vec, Global}
+use Rattle.std.proofs.Common.{refl}
+use Rattle.kpn_run.proofs.Refusals.{unboxed_back}
 use Rattle.kpn_run.proofs.running.unboxed.Goals as goal
 
-pub returns-in-NotRun-clause-not_run : goal.returns-in-NotRun-clause-not_run
-returns-in-NotRun-clause-not_run g c = λ n bs f is.
-    let same : bs ≡ c.unbox_all.result = cc in
-    (c.in-NotRun.bodies, (cc), ap (λ (v : Vec g.row.B.Denot Global). v.items) same ∙ c.unbox_all.ensures)
+pub returns-in-NotRun : goal.returns-in-NotRun
+returns-in-NotRun g c = λ net bodies workers handed.
+    c.fault_of.ensures net bodies workers (unboxed_back g.B.Body.card net bodies _ _ refl c.unbox_all-bodies.ensures refl (rw c.in-NotRun.is at handed))

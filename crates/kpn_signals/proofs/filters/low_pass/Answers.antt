@@ -5,9 +5,9 @@ use Rattle.kpn_signals.proofs.Numbers.{level_casts, level_is}
 use Rattle.kpn_signals.proofs.filters.low_pass.Goals as goal
 
 pub overflow_cast-next-in-Some : goal.overflow_cast-next-in-Some
-overflow_cast-next-in-Some c = level_casts c.args.bits (at c.args.local 0) c.word.result (omega arith) (omega arith) _ _ _ _ c.cast_signed.ensures c.from-level.ensures c.cast_signed-in-Some.ensures c.from-word.ensures
+overflow_cast-next-in-Some c = level_casts c.bits.inside.number (at c.args.local 0) c.word.result (omega (arith, c.bits.invariant)) (omega arith) _ _ _ _ c.cast_signed.ensures c.from-level.ensures c.cast_signed-in-Some.ensures c.from-word.ensures
 
 pub returns-in-Some : goal.returns-in-Some
 returns-in-Some c =
-    let next = level_is c.args.bits (at c.args.local 0) c.word.result (omega arith) (omega arith) _ _ _ _ c.cast_signed.ensures c.from-level.ensures c.cast_signed-in-Some.ensures c.from-word.ensures _ c.cast_unsigned-next.ensures in
-    search (next, c.word.ensures, c.writes_word.ensures, c.in-Some.is)
+    let next = level_is c.bits.inside.number (at c.args.local 0) c.word.result (omega (arith, c.bits.invariant)) (omega arith) _ _ _ _ c.cast_signed.ensures c.from-level.ensures c.cast_signed-in-Some.ensures c.from-word.ensures _ c.cast_unsigned-next.ensures in
+    search (rw c.bits.view_is at next, c.word.ensures, c.writes_word.ensures, c.in-Some.is)

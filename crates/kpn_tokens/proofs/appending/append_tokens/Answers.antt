@@ -28,5 +28,5 @@ loop-place-preserved c = grind (arith, common_steps)
 pub returns-clause-appends : goal.returns-clause-appends
 returns-clause-appends c = grind (arith, common_steps)
 
-pub returns-clause-clipped : goal.returns-clause-clipped
-returns-clause-clipped c = grind (arith, common_steps)
+pub returns-clause-counted : goal.returns-clause-counted
+returns-clause-counted c = grind (arith, common_steps)

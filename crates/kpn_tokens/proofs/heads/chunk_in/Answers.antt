@@ -1,5 +1,5 @@
-use Rattle.std.proofs.Common.{◌≡◌, ◌<◌, ◌≤◌, ◌+◌, ◌∙◌, true, false, length, rules, sym}
-use Rattle.kpn_tokens.specs.Heads.{after_chunk, has_letters, here, later}
+use Rattle.std.proofs.Common.{◌≡◌, ◌<◌, ◌≤◌, ◌+◌, ◌%◌, ◌∙◌, true, false, ap, length, rules, sym}
+use Rattle.kpn_tokens.specs.Heads.{after_chunk, chunk_size, has_letters, here, later}
 use Rattle.kpn_tokens.proofs.Chunks.{none_past, sought_on}
 use Rattle.kpn_tokens.proofs.heads.chunk_in.Goals as goal
 
@@ -16,7 +16,8 @@ loop-place-preserved c =
     let place = c.loop-place.place in
     let within : place + 8 ≤ length bytes = search rules in
     let no : has_letters letters place bytes ≡ false = sym c.has_letters.ensures ∙ c.if-has_letters.false in
-    let next : c.after_chunk-place.result ≡ after_chunk place bytes = c.after_chunk-place.ensures in
+    let size : c.chunk_size-size.result ≡ chunk_size place bytes = c.chunk_size-size.ensures in
+    let next : place + 8 + c.chunk_size-size.result + c.chunk_size-size.result % 2 ≡ after_chunk place bytes = ap (λ n. place + 8 + n + n % 2) size in
     record {
       first = λ found h. c.loop-place.invariant.first found (later within no (rw next at h));
       only = λ found h. rw next (sought_on bytes letters place found no (c.loop-place.invariant.only found h));

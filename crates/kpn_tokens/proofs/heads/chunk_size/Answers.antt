@@ -3,5 +3,5 @@ use Rattle.std.proofs.Common.{arith}
 use Rattle.std.proofs.lemmas.Grind.{common_steps}
 use Rattle.kpn_tokens.proofs.heads.chunk_size.Goals as goal
 
-pub returns-clause-size : goal.returns-clause-size
-returns-clause-size c = grind (arith, common_steps)
+pub returns : goal.returns
+returns c = grind (arith, common_steps)

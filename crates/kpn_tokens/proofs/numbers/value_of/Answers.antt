@@ -1,10 +1,10 @@
 use Rattle.std.proofs.Common.{◌≡◌, ◌<◌, ◌*◌, ◌^◌, ◌++◌, ℕ, SomeIff, arith, subst, sym, ap, ◌∙◌}
 use Rattle.std.specs.Str.Parse.{digits_value, digits_value_after}
-use Rattle.kpn_tokens.proofs.Digits.{after_both, whole_too_great, zeros_grow}
+use Rattle.kpn_tokens.proofs.Digits.{after_both, based, whole_too_great, zeros_grow}
 use Rattle.kpn_tokens.proofs.numbers.value_of.Goals as goal
 
 pub returns-in_default : goal.returns-in_default
-returns-in_default c = whole_too_great c.args.base c.args.zeros (2 ^ 64) c.args.whole.now c.args.part.now c.requires c.in_default.ensures
+returns-in_default c = whole_too_great c.args.base c.args.zeros (2 ^ 64) c.args.whole.now c.args.part.now (based c.args.base 0 c.args.whole.now (omega arith) c.in_default.ensures) c.in_default.ensures
 
 pub returns-in_default-value_after : goal.returns-in_default-value_after
 returns-in_default-value_after c =

@@ -17,23 +17,27 @@ invariant_of-self g c =
     let outputs = c.self.inside.outputs.items in
     let flow = c.self.invariant.0 in
     let output : is_among outputs c.args.channel ≡ true = rw (← c.self.view_is) at c.requires in
-    let leaves : c.drain-token.new.core.store.state ≡ with_channel M c.args.channel (drop 1 (tokens M c.args.channel)) (capacity M c.args.channel) = ap (λ (x : StateAndHistory). x.state) c.drain-token.ensures.rest in (
+    let leaves : c.drain-token.new.core.store.state ≡ with_channel M c.args.channel (drop 1 (tokens M c.args.channel)) (capacity M c.args.channel) = ap (λ (x : StateAndHistory). x.state) c.drain-token.ensures.wakes.store in (
       flowing_on kinds g.B.Kinds.Kinds.admits net c.self.inside.inputs.items c.self.inside.unended.items outputs M c.drain-token.new.core.store.state c.self.inside.core.standings c.drain-token.new.core.standings (map (option_map g.B.Body.card) c.self.inside.bodies.items) c.self.inside.core.store.limit c.drain-token.new.core.store.limit c.self.inside.counts (Drained c.args.channel c.drain-token.result) flow
-          ((drop 1 (tokens M c.args.channel), c.drain-token.ensures.token), leaves) (output, tt) refl (record { keeps = c.drain-token.ensures.coherent.keeps; none_out = λ q e. flow.fits.none_out q (c.drain-token.ensures.none_sent q e) }) (ap (λ (x : StateAndHistory). x.limit) c.drain-token.ensures.rest),
-      c.drain-token.ensures.coherent.waiting,
+          ((drop 1 (tokens M c.args.channel), c.drain-token.ensures.token), leaves) (output, tt) refl (record { keeps = c.drain-token.ensures.wakes.coherent.keeps; none_out = λ q e. flow.fits.none_out q (c.drain-token.ensures.wakes.none_sent q e) }) (ap (λ (x : StateAndHistory). x.limit) c.drain-token.ensures.wakes.store),
+      c.drain-token.ensures.wakes.coherent.waiting,
     )
 
 pub returns-clause-drained : goal.returns-clause-drained
-returns-clause-drained g c = rw (← c.self.view_is) ((_, c.drain-token.ensures.token), ap (λ (x : StateAndHistory). x.state) c.drain-token.ensures.rest)
+returns-clause-drained g c = rw (← c.self.view_is) ((_, c.drain-token.ensures.token), ap (λ (x : StateAndHistory). x.state) c.drain-token.ensures.wakes.store)
 
-pub drain-token-requires-clause-coherent : goal.drain-token-requires-clause-coherent
-drain-token-requires-clause-coherent g c κs within = record { keeps = c.self.invariant.0.fits.keeps; waiting = c.self.invariant.1 }
+pub drain-token-requires-after_bounds : goal.drain-token-requires-after_bounds
+drain-token-requires-after_bounds g c κs within =
+    let flow = c.self.invariant.0 in
+    let output : is_among c.self.inside.outputs.items c.args.channel ≡ true = rw (← c.self.view_is) at c.requires in
+    record {
+      coherent = record { keeps = flow.fits.keeps; waiting = c.self.invariant.1 };
+      channel = (flow.ends.only_drained c.args.channel output).0;
+      some = omega (arith, c.tokens_and_capacity-held.ensures.tokens);
+    }
 
 pub returns-clause-same : goal.returns-clause-same
 returns-clause-same g c = rw (← c.self.view_is) (record { network = refl; inputs = refl; unended = refl; outputs = refl })
 
 pub returns-clause-counts : goal.returns-clause-counts
 returns-clause-counts g c = rw (← c.self.view_is) refl
-
-pub drain-token-requires-clause-some : goal.drain-token-requires-clause-some
-drain-token-requires-clause-some g c κs within = omega (arith, c.tokens_and_capacity-held.ensures.tokens)

@@ -1,7 +1,7 @@
 -- The answer of a process that is out is worked on, and the process goes out again.
 use Rattle.std.proofs.lemmas.List.{length-set}
 use denote.Param.Send.{sendable}
-use Rattle.std.proofs.Common.{◌≡◌, arith, refl, sym, ◌∙◌}
+use Rattle.std.proofs.Common.{◌≡◌, ◌<◌, None, arith, length, refl, sym, ◌∙◌}
 use Rattle.std.proofs.lemmas.List.{set-set, set-get_or}
 use Rattle.kpn_state.specs.declared.standing.Standing.TheVariants.{Ready, Out, Stopped}
 use Rattle.kpn_state.specs.Standings.{standing}
@@ -21,23 +21,18 @@ overflow_add-self g c =
     let small = valid.small_budget in
     omega arith
 
-pub work_on-requires-clause-coherent : goal.work_on-requires-clause-coherent
-work_on-requires-clause-coherent g c κs within = record { keeps = c.self.invariant.0.keeps; waiting = c.self.invariant.2 }
-
-pub work_on-requires-clause-process : goal.work_on-requires-clause-process
-work_on-requires-clause-process g c κs within =
+pub work_on-requires-after_bounds : goal.work_on-requires-after_bounds
+work_on-requires-after_bounds g c κs within =
     let out : IsOutAt c.self.inside.net c.self.inside.core.store.state c.self.inside.core.standings c.args.task.now = rw (← c.self.view_is) at c.requires.out in
-    rw c.process-process.ensures (out_within c.self.invariant.0 c.args.task.now out)
-
-pub work_on-requires-clause-busy : goal.work_on-requires-clause-busy
-work_on-requires-clause-busy g c κs within =
-    let out : IsOutAt c.self.inside.net c.self.inside.core.store.state c.self.inside.core.standings c.args.task.now = rw (← c.self.view_is) at c.requires.out in
-    rw (c.process-process.ensures, out.out) refl
-
-pub work_on-requires-clause-wants : goal.work_on-requires-clause-wants
-work_on-requires-clause-wants g c κs within =
-    let out : IsOutAt c.self.inside.net c.self.inside.core.store.state c.self.inside.core.standings c.args.task.now = rw (← c.self.view_is) at c.requires.out in
-    rw (c.process-process.ensures, c.requires.answer, out.live, out.card) refl
+    let none : c.self.inside.end ≡ None = none_of _ (sym c.is_some.ensures ∙ c.if-is_some.false) in
+    let less : length c.self.inside.core.store.history < c.self.inside.net.budget = rw none at c.self.invariant.0.ends in
+    record {
+      coherent = record { keeps = c.self.invariant.0.keeps; waiting = c.self.invariant.2 };
+      process = rw c.process-process.ensures (out_within c.self.invariant.0 c.args.task.now out);
+      wants = rw (c.process-process.ensures, c.requires.answer, out.live, out.card) refl;
+      busy = rw (c.process-process.ensures, out.out) refl;
+      room = omega (arith, less, c.self.invariant.0.limit_is);
+    }
 
 pub invariant_of-self-2 : goal.invariant_of-self-2
 invariant_of-self-2 g c =

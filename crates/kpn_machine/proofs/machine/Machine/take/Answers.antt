@@ -8,22 +8,22 @@ use Rattle.kpn_machine.proofs.machine.Machine.take.Goals as goal
 
 pub invariant_of-self-2 : goal.invariant_of-self-2
 invariant_of-self-2 g c = (
-  rw (c.in_ok-process.ensures.out, c.take_out.ensures.bodies, map-set) (sound_taken c.self.invariant.0 c.in_ok-process.process (none_of _ (sym c.is_some.ensures ∙ c.if-is_some.false)) c.in_ok-process.ensures.some),
+  rw (c.in_ok-process.ensures.some.out, c.take_out.ensures.bodies, map-set) (sound_taken c.self.invariant.0 c.in_ok-process.process (none_of _ (sym c.is_some.ensures ∙ c.if-is_some.false)) c.in_ok-process.ensures.some.was.ready),
   c.self.invariant.1,
-  rw c.in_ok-process.ensures.out (waiting_moved c.self.invariant.2 c.in_ok-process.process _ (rw c.in_ok-process.ensures.some) refl),
+  rw c.in_ok-process.ensures.some.out (waiting_moved c.self.invariant.2 c.in_ok-process.process _ (rw c.in_ok-process.ensures.some.was.ready) refl),
 )
 
 pub take_out-requires-clause-process : goal.take_out-requires-clause-process
-take_out-requires-clause-process g c κs within = let k = c.self.invariant.0.keeps in omega (arith, c.in_ok-process.ensures.within, k.one_each, k.processes)
+take_out-requires-clause-process g c κs within = let k = c.self.invariant.0.keeps in omega (arith, c.in_ok-process.ensures.some.was.within, k.one_each, k.processes)
 
 pub take_out-requires-clause-bodies : goal.take_out-requires-clause-bodies
 take_out-requires-clause-bodies g c κs within =
     let sound = c.self.invariant.0 in
-    omega (arith, c.in_ok-process.ensures.within, sound.keeps.one_each, sound.many_bodies, length-map c.self.inside.bodies.items (option_map g.B.Body.card))
+    omega (arith, c.in_ok-process.ensures.some.was.within, sound.keeps.one_each, sound.many_bodies, length-map c.self.inside.bodies.items (option_map g.B.Body.card))
 
 pub take_out-requires-clause-live : goal.take_out-requires-clause-live
 take_out-requires-clause-live g c κs within = λ e.
-    let ready = c.in_ok-process.ensures.some in
+    let ready = c.in_ok-process.ensures.some.was.ready in
     let stopped = c.self.invariant.0.keeps.done c.in_ok-process.process e in
     cc
 
@@ -33,8 +33,8 @@ take_out-requires-clause-well_typed g c κs within = c.self.invariant.0.keeps.we
 pub take_out-requires-clause-has_body : goal.take_out-requires-clause-has_body
 take_out-requires-clause-has_body g c κs within =
     let sound = c.self.invariant.0 in
-    let ready = c.in_ok-process.ensures.some in
-    sound.has_bodies c.in_ok-process.process (omega (arith, c.in_ok-process.ensures.within, sound.keeps.one_each)) (λ e. cc)
+    let ready = c.in_ok-process.ensures.some.was.ready in
+    sound.has_bodies c.in_ok-process.process (omega (arith, c.in_ok-process.ensures.some.was.within, sound.keeps.one_each)) (λ e. cc)
 
 pub returns-then-is_some-clause-none : goal.returns-then-is_some-clause-none
 returns-then-is_some-clause-none g c = rw (← c.self.view_is) (λ none. absurd (some_of _ (sym c.is_some.ensures ∙ c.if-is_some.true) none))
@@ -43,5 +43,5 @@ pub returns-clause-some : goal.returns-clause-some
 returns-clause-some g c =
     rw (← c.self.view_is) (
       none_of _ (sym c.is_some.ensures ∙ c.if-is_some.false),
-      rw (c.take_out.ensures.process, c.in_ok-process.ensures.out) (record { ready = c.in_ok-process.ensures.some; card = c.take_out.ensures.card; live = c.take_out.ensures.live; after = refl }),
+      rw (c.take_out.ensures.process, c.in_ok-process.ensures.some.out) (record { ready = c.in_ok-process.ensures.some.was.ready; card = c.take_out.ensures.card; live = c.take_out.ensures.live; after = refl }),
     )

@@ -26,8 +26,8 @@ returns-clause-went g c =
 pub invariant_of-self-2 : goal.invariant_of-self-2
 invariant_of-self-2 g c = grind (arith, common_steps)
 
-pub returns-in-Nothing : goal.returns-in-Nothing
-returns-in-Nothing g c = grind (arith, common_steps)
+pub returns-in-None : goal.returns-in-None
+returns-in-None g c = grind (arith, common_steps)
 
 pub invariant_of-self : goal.invariant_of-self
 invariant_of-self g c = grind (arith, common_steps)
@@ -35,5 +35,5 @@ invariant_of-self g c = grind (arith, common_steps)
 pub overflow_sub-more : goal.overflow_sub-more
 overflow_sub-more g c = grind (arith, common_steps)
 
-pub returns-in-Over-clause-went : goal.returns-in-Over-clause-went
-returns-in-Over-clause-went g c = grind (arith, common_steps)
+pub returns-in-Some-clause-went : goal.returns-in-Some-clause-went
+returns-in-Some-clause-went g c = grind (arith, common_steps)

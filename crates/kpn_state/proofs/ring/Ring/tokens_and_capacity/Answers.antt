@@ -2,8 +2,5 @@
 use Rattle.std.proofs.Common.{rules}
 use Rattle.kpn_state.proofs.ring.Ring.tokens_and_capacity.Goals as goal
 
-pub returns-clause-tokens : goal.returns-clause-tokens
-returns-clause-tokens c = search rules
-
-pub returns-clause-capacity : goal.returns-clause-capacity
-returns-clause-capacity c = search rules
+pub returns-clause-counts : goal.returns-clause-counts
+returns-clause-counts c = search rules

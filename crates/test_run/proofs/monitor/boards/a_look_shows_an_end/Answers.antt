@@ -3,5 +3,7 @@ use Rattle.std.proofs.Common.{◌≡◌, [], rules}
 use Rattle.kpn_watch.proofs.Fronts.{prefix_of_front}
 use Rattle.test_run.proofs.monitor.boards.a_look_shows_an_end.Goals as goal
 
-pub publish-requires-clause-goes_on : goal.publish-requires-clause-goes_on
-publish-requires-clause-goes_on g c = let none : c.split.new.publisher.entries ≡ [] = search rules in prefix_of_front _ [] _ none
+pub publish-requires-clause-may : goal.publish-requires-clause-may
+publish-requires-clause-may g c =
+    let none : c.split.new.publisher.entries ≡ [] = search rules in
+    record { board_is = search rules; goes_on = prefix_of_front _ [] _ none; short = search rules; ended = search rules }

@@ -1,11 +1,19 @@
--- What is published goes on by two entries.
-use Rattle.std.proofs.Common.{◌++◌, ◌∷◌, [], ◌∙◌, ap, sym}
+-- What is published first is one entry, and goes on by two.
+use Rattle.std.proofs.Common.{◌++◌, ◌∷◌, [], ◌∙◌, ap, sym, rules}
 use Rattle.kpn_model.specs.declared.history.Entry.TheVariants.{Grew}
 use Rattle.kpn_watch.proofs.Fronts.{prefix_trans}
 use Rattle.kpn_watch.specs.Boards.{Published}
 use Rattle.test_run.proofs.monitor.boards.kept_looks.Goals as goal
 
-pub publish_kept-requires-2-clause-goes_on : goal.publish_kept-requires-2-clause-goes_on
-publish_kept-requires-2-clause-goes_on g c =
+pub publish_kept-requires-clause-may : goal.publish_kept-requires-clause-may
+publish_kept-requires-clause-may g c = record { board_is = search rules; goes_on = search rules; short = search rules; ended = search rules }
+
+pub publish_kept-requires-2-clause-may : goal.publish_kept-requires-2-clause-may
+publish_kept-requires-2-clause-may g c =
     let before = ap (λ (p : Published). p.entries) c.publish_kept.ensures in
-    prefix_trans _ (g.H.Keeper.entries c.keep-2.new.self) _ (Grew 0 2 ∷ [], ap (λ l. l ++ Grew 0 2 ∷ []) before ∙ sym c.keep-2.ensures.entries) (_ ∷ [], sym c.keep-3.ensures.entries)
+    record {
+      board_is = search rules;
+      goes_on = prefix_trans _ (g.H.Keeper.entries c.keep-2.new.self) _ (Grew 0 2 ∷ [], ap (λ l. l ++ Grew 0 2 ∷ []) before ∙ sym c.keep-2.ensures.entries) (_ ∷ [], sym c.keep-3.ensures.entries);
+      short = search rules;
+      ended = search rules;
+    }

@@ -1,9 +1,0 @@
--- What is told is told of the network that was given; a body fits each process.
-use Rattle.std.proofs.Common.{ap, ◌∙◌, Err}
-use Rattle.kpn_execute.proofs.Telling.{not_refused}
-use Rattle.hox_run.proofs.running.execute_watched.Goals as goal
-
-pub unreachable-requires-in-Err-Open : goal.unreachable-requires-in-Err-Open
-unreachable-requires-in-Err-Open g c =
-    let misfit = c.run_watched_with_keeper.ensures.open _ _ _ (c.in-Err-Open.is ∙ ap (λ x. Err x) c.in-Err-Open.field-0-is) in
-    not_refused _ _ _ c.requires.cards misfit.2 misfit.3
