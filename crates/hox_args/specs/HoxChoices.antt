@@ -1,5 +1,5 @@
 -- What the arguments ask for, and why they are rejected.
-use Rattle.std.specs.Prelude.{◌≡◌, ◌⊎◌, ◌<◌, ◌≤◌, ◌^◌, ℕ, Bool, false, codes, List, [], map, Option, Some, None, IfSome, if◌then◌else◌, option_map, unwrap_or}
+use Rattle.std.specs.Prelude.{◌≡◌, ◌⊎◌, ◌<◌, ◌≤◌, ◌^◌, ℕ, Bool, false, codes, List, [], map, Option, Some, None, IfSome, Result, IfOk, IfErr, if◌then◌else◌, option_map, unwrap_or}
 use Rattle.std.specs.Option.{option_map_or}
 use Rattle.std.specs.Str.{bytes_eq}
 use Rattle.std.specs.Str.Parse.{IsNumeral, digits_value, without_leading_plus}
@@ -116,6 +116,11 @@ IsRunFault rows (Parser e) = ⊥
 IsRunFault rows Workers = IsRefusedWorkers (first_of (codes "workers") rows)
 IsRunFault rows Budget = IsRefusedBudget (first_of (codes "budget") rows)
 IsRunFault rows Memory = Unit {0}
+
+-- the choice that the entries of this subcommand make, or why they make none
+pub record GivesChoice (name : Text) (rows : List Row) (result : Result Choice WordsFault) : Type 0 where
+  pub ok : IfOk result (IsHoxChoiceOf (Some (name, rows)))
+  pub fault : IfErr result (IsRunFault rows)
 
 abbrev pub IsFaultIn : Option (Text × List Row) → WordsFault → Type 0
 IsFaultIn None fault = ⊥

@@ -6,7 +6,7 @@ ghost use Rattle.std.specs.Str.{bytes_eq};
 ghost use Rattle.clap.specs.Words.{FailsBy, fault_of, found_of, rows_of, subcommand_of, subcommand_rows_of};
 ghost use Rattle.kpn_picture.specs.declared.looks.Direction.TheVariants.{Right, Down};
 ghost use Rattle.hox_args.specs.HoxCommand.{hox};
-ghost use Rattle.hox_args.specs.HoxChoices.{BudgetFrom, HasFewHoxWorkers, IsHoxChoice, IsHoxChoiceOf, IsHoxFault, IsNumber, IsRefusedBudget, IsRunFault, IsSubcommand, asks_for_hox_help, is_given, texts_of};
+ghost use Rattle.hox_args.specs.HoxChoices.{BudgetFrom, GivesChoice, HasFewHoxWorkers, IsHoxChoice, IsHoxChoiceOf, IsHoxFault, IsNumber, IsRefusedBudget, IsSubcommand, asks_for_hox_help, is_given, texts_of};
 
 use crate::command::command_line;
 use clap::ArgMatches;
@@ -196,8 +196,7 @@ fn choice_of<'a>(
     entries: &ArgMatches<'a>,
 ) -> Result<Choice<'a>, WordsFault>
     requires { IsSubcommand name.now }
-    ensures ok { IfOk result (IsHoxChoiceOf (Some (name.now, rows_of (found_of entries.now)))) }
-    ensures fault { IfErr result (IsRunFault (rows_of (found_of entries.now))) }
+    ensures { GivesChoice name.now (rows_of (found_of entries.now)) result }
 {
     match name {
         "check" => Ok(check_choice(alloc, entries)?),
@@ -225,8 +224,7 @@ fn check_choice<'a>(alloc: Global, entries: &ArgMatches<'a>) -> Result<Choice<'a
 }
 
 fn run_choice<'a>(alloc: Global, entries: &ArgMatches<'a>) -> Result<Choice<'a>, WordsFault>
-    ensures ok { IfOk result (IsHoxChoiceOf (Some (codes "run", rows_of (found_of entries.now)))) }
-    ensures fault { IfErr result (IsRunFault (rows_of (found_of entries.now))) }
+    ensures { GivesChoice (codes "run") (rows_of (found_of entries.now)) result }
 {
     let workers = workers_in(text_in(entries, "workers")).ok_or(WordsFault::Workers)?;
     let budget = budget_in(text_in(entries, "budget"))?;
@@ -255,8 +253,7 @@ fn run_choice<'a>(alloc: Global, entries: &ArgMatches<'a>) -> Result<Choice<'a>,
 }
 
 fn draw_choice<'a>(alloc: Global, entries: &ArgMatches<'a>) -> Result<Choice<'a>, WordsFault>
-    ensures ok { IfOk result (IsHoxChoiceOf (Some (codes "draw", rows_of (found_of entries.now)))) }
-    ensures fault { IfErr result (IsRunFault (rows_of (found_of entries.now))) }
+    ensures { GivesChoice (codes "draw") (rows_of (found_of entries.now)) result }
 {
     let count = workers_in(text_in(entries, "workers")).ok_or(WordsFault::Workers)?;
     let tokens = texts_in(alloc, entries, "tokens")?;

@@ -1,9 +1,8 @@
 //! Draws the network of a description.
-ghost use Rattle.std.specs.Prelude.{◌+◌, false, IfOk, IfErr, Some, string_bytes};
+ghost use Rattle.std.specs.Prelude.{false, IfOk, IfErr, Some, string_bytes};
 ghost use Rattle.kpn_model.specs.Network.{Network as NetworkV};
 ghost use Rattle.kpn_model.specs.Families.{family};
-ghost use Rattle.kpn_front.specs.Loading.{ConsumesAtMost, longest};
-ghost use Rattle.hox_network.specs.Preparing.{HasFewWorkers, IsFault, Serves};
+ghost use Rattle.hox_network.specs.Preparing.{IsFault, Serves, ServesFrom};
 ghost use Rattle.hox_draw.specs.Drawing.{Draws, DrawsNet, GivesPicture};
 
 use crate::running::draw_run;
@@ -27,8 +26,8 @@ pub struct WantedPicture<'a> {
 }
 
 /// Reads a description, sets the start tokens of the request's files and the request's budget, and returns the
-/// picture of the network that is wanted; if of a run, of one with the request's 1 to 16 workers. A process whose
-/// kind in the description is a formula has that as its title.
+/// picture of the network that is wanted; if of a run, of one with the request's workers, but at least 1 and at most
+/// 16. A process whose kind in the description is a formula has that as its title.
 ///
 /// Errors: see [`Fault`], except `NoShown` and `NoOutput`; `Lost` only with several workers.
 pub fn draw<K: Computes + Titled, I: Source, R: Wait + Clock + Threads + Sync>(
@@ -37,9 +36,7 @@ pub fn draw<K: Computes + Titled, I: Source, R: Wait + Clock + Threads + Sync>(
     wanted: &WantedPicture<'_>,
     source: &mut I,
 ) -> Result<String, Fault>
-    requires { HasFewWorkers wanted.now.request.now }
-    ensures served { Serves K.named K.signature (GivesPicture (family K.Kinds) K.named K.title wanted.now.direction wanted.now.is_run wanted.now.request.now) (I.remaining source.old) (I.has_failed source.old) (I.has_failed source.new) result }
-    ensures taken { ConsumesAtMost (longest + 1) (I.remaining source.old) (I.remaining source.new) }
+    ensures { ServesFrom K.named K.signature (GivesPicture (family K.Kinds) K.named K.title wanted.now.direction wanted.now.is_run wanted.now.request.now) (I.remaining source.old) (I.remaining source.new) (I.has_failed source.old) (I.has_failed source.new) result }
 {
     match read_text(alloc, source) {
         Ok(text) => draw_text::<K, R>(rt, alloc, wanted, text.as_slice()),
@@ -56,7 +53,6 @@ fn draw_text<K: Computes + Titled, R: Wait + Clock + Threads + Sync>(
     wanted: &WantedPicture<'_>,
     text: &[u8],
 ) -> Result<String, Fault>
-    requires { HasFewWorkers wanted.now.request.now }
     ensures { Serves K.named K.signature (GivesPicture (family K.Kinds) K.named K.title wanted.now.direction wanted.now.is_run wanted.now.request.now) (Some text.now) false false result }
 {
     let mut source = text;
@@ -81,7 +77,6 @@ fn draw_prepared<K: Computes + Titled, R: Wait + Clock + Threads + Sync>(
     net: Net<K>,
     style: &Style<'_>,
 ) -> Result<String, Fault>
-    requires { HasFewWorkers wanted.now.request.now }
     ensures drawn { IfOk result (λ picture. Draws (family K.Kinds) K.title style.now.direction style.now.titles.now wanted.now.is_run net (string_bytes picture)) }
     ensures fault { IfErr result (λ e. (m : NetworkV) → IsFault wanted.now.request.now m e) }
 {

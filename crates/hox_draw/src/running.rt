@@ -10,15 +10,16 @@ use kpn_machine::{Chronicle, Machine};
 use kpn_network::Net;
 use kpn_picture::{Left, Style, Titled, picture_of};
 use kpn_report::{Report, places_of, report_of};
+use kpn_run::starting::MOST_WORKERS;
 use kpn_run::{Prompt, RunFault, run};
 use std::alloc::{AllocError, Global};
 use std::rt::Clock;
 use std::sync::Wait;
 use std::thread::Threads;
 
-/// Runs a network with 1 to 16 workers, and returns the picture of how the run left it, however it ended. A
-/// single worker is the calling thread. Errors: `Memory`: out of memory, before the run or for the picture.
-/// `Lost`: the machine rejected an answer of one of several workers.
+/// Runs a network with so many workers, but at least 1 and at most 16, and returns the picture of how the run left
+/// it, however it ended. A single worker is the calling thread. Errors: `Memory`: out of memory, before the run or
+/// for the picture. `Lost`: the machine rejected an answer of one of several workers.
 pub(crate) fn draw_run<K: Computes + Titled, R: Wait + Clock + Threads + Sync>(
     rt: &R,
     alloc: Global,
@@ -26,30 +27,20 @@ pub(crate) fn draw_run<K: Computes + Titled, R: Wait + Clock + Threads + Sync>(
     style: &Style<'_>,
     workers: usize,
 ) -> Result<String, NoResult>
-    requires { (1 ≤ workers) × (workers ≤ 16) }
     ensures drawn { IfOk result (λ picture. DrawsRun (family K.Kinds) K.title style.now.direction style.now.titles.now net (string_bytes picture)) }
     ensures lost { result ≡ Err NoResult.Lost → 1 < workers }
 {
-    if workers == 1 {
-        draw_alone(alloc, net, style).map_err(|_| NoResult::Memory)
-    } else {
-        draw_by_workers(rt, alloc, net, style, workers)
+    if workers > 1 {
+        return draw_by_workers(rt, alloc, net, style, workers.min(MOST_WORKERS));
     }
-}
-
-fn draw_alone<K: Computes + Titled>(
-    alloc: Global,
-    net: Net<K>,
-    style: &Style<'_>,
-) -> Result<String, AllocError>
-    ensures { IfOk result (λ picture. DrawsRun (family K.Kinds) K.title style.now.direction style.now.titles.now net (string_bytes picture)) }
-{
-    let bodies = bodies_of(alloc, &net)?;
+    let Ok(bodies) = bodies_of(alloc, &net) else {
+        return Err(NoResult::Memory);
+    };
     let Ok(mut machine) = Machine::open(alloc, net, bodies) else {
-        return Err(AllocError);
+        return Err(NoResult::Memory);
     };
     machine.finish_alone();
-    picture_of_run(alloc, &machine.into_chronicle(), style)
+    picture_of_run(alloc, &machine.into_chronicle(), style).map_err(|_| NoResult::Memory)
 }
 
 fn draw_by_workers<K: Computes + Titled, R: Wait + Clock + Threads + Sync>(

@@ -19,16 +19,11 @@ pub(crate) fn titles_of<K: Kinds>(
 ) -> Result<Vec<Text>, AllocError>
     ensures { IfOk result (λ titles. AreTitles K.named net.now titles.items) }
 {
-    match read_delayed(alloc, text) {
-        Ok(Delayed { sketch, .. }) => titles_in(alloc, net, sketch),
-        Err(NetFault::Memory) => Err(AllocError),
-        Err(_) => Ok(Vec::new(alloc)),
-    }
-}
-
-fn titles_in<K: Kinds>(alloc: Global, net: &Net<K>, sketch: Sketch) -> Result<Vec<Text>, AllocError>
-    ensures { IfOk result (λ titles. AreTitles K.named net.now titles.items) }
-{
+    let sketch = match read_delayed(alloc, text) {
+        Ok(Delayed { sketch, .. }) => sketch,
+        Err(NetFault::Memory) => return Err(AllocError),
+        Err(_) => return Ok(Vec::new(alloc)),
+    };
     let Sketch { processes, .. } = sketch;
     let mut titles = Vec::new(alloc);
     for process in processes.into_vec() {

@@ -1,5 +1,5 @@
 -- What comes of a picture, of its text.
-use Rattle.std.proofs.Common.{◌≤◌, ℕ, Bool, List, Option, Some, None, IfSome, unwrap_or, Result, Ok, Err, String, string_bytes, arith}
+use Rattle.std.proofs.Common.{ℕ, Bool, List, Option, Result, Ok, Err, String, string_bytes}
 use Rattle.kpn_sketch.specs.declared.fault.NetFault.{NetFault}
 use Rattle.kpn_model.specs.Network.{Family, Network}
 use Rattle.kpn_picture.specs.declared.looks.Direction.{Direction}
@@ -13,8 +13,3 @@ pub drawn_text :
     → GivesLoaded (GivesPicture kinds named title direction {Z = Z} is_run request) loaded (Ok picture) → GivesLoaded (GivesDrawing kinds named title direction is_run request) loaded (Ok (string_bytes picture))
 drawn_text {Z} kinds named title direction is_run request picture (Ok net) h = h
 drawn_text {Z} kinds named title direction is_run request picture (Err e) h = absurd h
-
--- a network that is drawn as it is has one worker
-pub few_or_one : (w : Option ℕ) → IfSome w (λ n. (1 ≤ n) × (n ≤ 16)) → (1 ≤ unwrap_or w 1) × (unwrap_or w 1 ≤ 16)
-few_or_one None few = (omega arith, omega arith)
-few_or_one (Some n) few = few

@@ -6,7 +6,7 @@ pub mod Sources
 pub mod Stopped
 pub mod Drawn
 pub mod Chosen
-pub mod Both
+pub mod Ended
 pub mod Grouped
 pub mod Rates
 pub mod Unasked

@@ -1,5 +1,5 @@
 -- What the commands of `hox` do, from what is wanted and files to what is written.
-use Rattle.std.specs.Prelude.{◌≡◌, ℕ, Bool, true, false, List, [], ◌∷◌, Option, Result, Ok, Err, MatchResult}
+use Rattle.std.specs.Prelude.{◌≡◌, ℕ, Bool, true, false, List, [], ◌∷◌, Option, Result, Ok, Err, IfOk, IfErr, OnErr, MatchResult}
 use Rattle.kpn_model.specs.declared.kinds.Card.{Card}
 use Rattle.kpn_model.specs.declared.kinds.Signature.{Signature}
 use Rattle.kpn_model.specs.Network.{Family, Network}
@@ -22,6 +22,12 @@ use Rattle.hox_execute.specs.Reports.{IsNoted, Writes, rate_of, written_of}
 use Rattle.hox_expanded.specs.Description.{description}
 use Rattle.hox_files.specs.Requests.{IsAsked, IsUnasked, ServesFile, Want}
 
+-- how a command ends: with what it did, or with the reason why it stopped; then it wrote nothing
+pub record Ends {X Y : Type 0} (did : X → Type 0) (stopped : Y → Type 0) (before after : Option (List Effect)) (result : Result X Y) : Type 0 where
+  pub done : IfOk result did
+  pub stop : IfErr result stopped
+  pub untouched : OnErr result (after ≡ before)
+
 -- the result of drawing a loaded network: its picture, or a fault
 abbrev pub GivesDrawing : Family → (List ℕ → Option (ℕ × ℕ)) → (ℕ → List ℕ × ℕ) → Direction → Bool → Request → Network → Result (List ℕ) Fault → Type 0
 GivesDrawing kinds named title direction is_run request net result = MatchResult result (DrawsPrepared kinds named title direction is_run request net) (IsFault request net)
@@ -30,6 +36,11 @@ GivesDrawing kinds named title direction is_run request net result = MatchResult
 abbrev pub checked_text : (ℕ → List ℕ × ℕ) → Bool → Network → List ℕ
 checked_text title false net = checked_line net
 checked_text title true net = description net title
+
+-- the result of a run is written, and the rest is noted
+pub record HasWritten (want : Want) (asked : Asked) (told : Told) (steady : Bool) (before after : Option (List Effect)) (ran : Ran) : Type 0 where
+  pub noted : IsNoted asked.tokens.items asked.outputs.items told ran
+  pub writes : Writes told.status (written_of want (rate_of asked.request.tokens) asked.outputs.items told) steady before after ran.status
 
 -- a family's names and ports; the contents of each file and which names clash, if known; what is wanted; and
 -- the texts CHANNEL=FILE of tokens and of streams
@@ -52,13 +63,12 @@ module _ (named : List ℕ → Option (ℕ × ℕ)) (signature : Card → Option
 
   -- whether no write can fail; the effects before and after
   module _ (steady : Bool) (before after : Option (List Effect)) where
-    -- the network is run, its result is written, and the rest is noted
+    -- the network is run, and its result is written
     pub record HasRun (kinds : Family) (ran : Ran) : Type 0 where
       pub asked : Asked
       pub told : Told
-      pub noted : IsNoted asked.tokens.items asked.outputs.items told ran
       pub comes : Comes (GivesRun kinds) asked (Ok told)
-      pub writes : Writes told.status (written_of want (rate_of asked.request.tokens) asked.outputs.items told) steady before after ran.status
+      pub written : HasWritten want asked told steady before after ran
 
     module _ (status : ExitStatus) where
       -- the description is a network, and that is written, or the network
@@ -74,3 +84,6 @@ module _ (named : List ℕ → Option (ℕ × ℕ)) (signature : Card → Option
         pub picture : List ℕ
         pub comes : Comes (GivesDrawing kinds named title direction is_run) asked (Ok picture)
         pub writes : Writes Success (wrote standard picture ∷ []) steady before after status
+
+    abbrev pub EndsCheck : (ℕ → List ℕ × ℕ) → Bool → Result ExitStatus Stop → Type 0
+    EndsCheck title expanded result = Ends (λ status. HasChecked status title expanded) IsStop before after result

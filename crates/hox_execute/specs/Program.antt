@@ -1,5 +1,5 @@
 -- What `hox` does, from its arguments and files to what is written.
-use Rattle.std.specs.Prelude.{◌≡◌, ℕ, Bool, false, List, [], map, Option, None, is_some, option_map, unwrap_or}
+use Rattle.std.specs.Prelude.{◌≡◌, ℕ, Bool, false, List, [], map, Option, None, is_some, option_map, unwrap_or, Result}
 use Rattle.kpn_model.specs.declared.kinds.Card.{Card}
 use Rattle.kpn_model.specs.declared.kinds.Signature.{Signature}
 use Rattle.kpn_model.specs.Network.{Family}
@@ -15,7 +15,7 @@ use Rattle.hox_execute.specs.declared.serving.Executed.{Executed}
 use Rattle.hox_execute.specs.declared.serving.Executed.TheVariants.{Exits, Ran, Streams, Lists}
 use Rattle.hox_files.specs.declared.stops.Stop.{Stop}
 use Rattle.hox_files.specs.declared.stops.Stop.TheVariants.{Clash, Format, InputTwice, Memory, NoPair, Refused, Unread, Words}
-use Rattle.hox_execute.specs.Commands.{HasChecked, HasDrawn, HasRun, IsStop}
+use Rattle.hox_execute.specs.Commands.{Ends, HasChecked, HasDrawn, HasRun, IsStop}
 use Rattle.hox_files.specs.Files.{Effect, standard}
 use Rattle.hox_files.specs.Requests.{Want}
 
@@ -85,3 +85,17 @@ module _ (named : List ℕ → Option (ℕ × ℕ)) (signature : Card → Option
   IsProgramStop words (Clash one other) = (choice : Choice) × IsHoxChoice words choice × IsStopIn choice (Clash one other)
   IsProgramStop words (Unread file error) = (choice : Choice) × IsHoxChoice words choice × IsStopIn choice (Unread file error)
   IsProgramStop words Memory = (choice : Choice) × IsHoxChoice words choice × IsStopIn choice Memory
+
+-- how a command ends
+module _ (kinds : Family) (named : List ℕ → Option (ℕ × ℕ)) (signature : Card → Option Signature) (contents : List ℕ → Option (List ℕ)) (clash : List ℕ → Bool → List ℕ → Bool → Option Bool) (steady : Bool) (before after : Option (List Effect)) where
+  abbrev pub EndsRun : RunChoice → Result RanV Stop → Type 0
+  EndsRun run result = Ends (RunsChoice kinds named signature contents clash steady before after run) (IsRunStop named signature contents clash run) before after result
+
+  module _ (title : ℕ → List ℕ × ℕ) where
+    abbrev pub EndsDraw : DrawChoice → Result ExitStatus Stop → Type 0
+    EndsDraw draw result =
+        Ends (DrawsChoice kinds named signature contents clash steady before after title draw) (IsDrawStop named signature contents clash draw) before after result
+
+    abbrev pub EndsChoice : Choice → Result Executed Stop → Type 0
+    EndsChoice choice result =
+        Ends (Does kinds named signature contents clash steady before after title choice) (IsStopIn named signature contents clash choice) before after result

@@ -133,6 +133,11 @@ pub record Tries (effects : List Effect) (are_done : Bool) (before after : Optio
   pub none_failed : are_done ≡ not (has_failure tried)
   pub goes_on : GoOn tried before after
 
+-- each of these effects is tried, and where no write can fail, none fails
+pub record TriesAll (effects : List Effect) (are_done : Bool) (steady_before : Bool) (before : Option (List Effect)) (steady_after : Bool) (after : Option (List Effect)) : Type 0 where
+  pub tries : Tries effects are_done before after
+  pub steady : steady_before ≡ true → (are_done ≡ true) × (steady_after ≡ true)
+
 -- each effect is tried. The status is the intended one if none fails, else 7. So if it is not 7, all is
 -- written, and 7 occurs only if a write can fail, or 7 is intended
 pub record Writes (status : ExitStatus) (effects : List Effect) (steady : Bool) (before after : Option (List Effect)) (given : ExitStatus) : Type 0 where

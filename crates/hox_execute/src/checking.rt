@@ -4,7 +4,7 @@ ghost use Rattle.kpn_front.specs.Lines.{checked_line};
 ghost use Rattle.kpn_model.specs.Network.{Network as NetworkV};
 ghost use Rattle.hox_network.specs.declared.request.Fault.{Fault as FaultV};
 ghost use Rattle.hox_network.specs.Preparing.{GivesNet};
-ghost use Rattle.hox_execute.specs.Commands.{HasChecked, IsStop, checked_text};
+ghost use Rattle.hox_execute.specs.Commands.{EndsCheck, checked_text};
 ghost use Rattle.hox_execute.specs.Program.{want_in};
 ghost use Rattle.hox_files.specs.Requests.{ServesFile, want_of};
 ghost use Rattle.hox_files.specs.Served.{ServesNamed};
@@ -35,9 +35,7 @@ pub(crate) fn check<'a, K: Titled, S: FileSystem>(
     tokens: &[&'a str],
     is_expanded: bool,
 ) -> Result<ExitStatus, Stop<'a>>
-    ensures done { IfOk result (λ status. HasChecked K.named K.signature (S.contents files.old) (S.clash files.old) (want_of wanted.entry) (map (λ t. t.now) tokens.now) [] (S.is_steady files.old) (S.effects files.old) (S.effects files.new) status K.title is_expanded) }
-    ensures stop { IfErr result (IsStop K.named K.signature (S.contents files.old) (S.clash files.old) (want_of wanted.entry) (map (λ t. t.now) tokens.now) []) }
-    ensures untouched { OnErr result (S.effects files.new ≡ S.effects files.old) }
+    ensures { EndsCheck K.named K.signature (S.contents files.old) (S.clash files.old) (want_of wanted.entry) (map (λ t. t.now) tokens.now) [] (S.is_steady files.old) (S.effects files.old) (S.effects files.new) K.title is_expanded result }
 {
     let asked = asked_of(alloc, files, wanted, tokens, &[])?;
     match checked_text::<K, S>(alloc, files, &asked.request, wanted.file, is_expanded) {

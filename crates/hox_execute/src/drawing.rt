@@ -1,9 +1,8 @@
 //! Draws a network.
-ghost use Rattle.std.specs.Prelude.{◌≡◌, ◌≤◌, IfOk, IfErr, IfSome, OnErr, is_some};
+ghost use Rattle.std.specs.Prelude.{◌≡◌, is_some};
 ghost use Rattle.kpn_model.specs.Families.{family};
 ghost use Rattle.hox_draw.specs.Drawing.{GivesPicture};
-ghost use Rattle.hox_network.specs.Preparing.{HasFewWorkers};
-ghost use Rattle.hox_execute.specs.Program.{DrawsChoice, IsDrawStop};
+ghost use Rattle.hox_execute.specs.Program.{EndsDraw};
 ghost use Rattle.hox_files.specs.Served.{ServesNamed};
 
 use crate::checking::network_in;
@@ -30,10 +29,7 @@ pub(crate) fn draw<'a, K: Computes + Titled, S: FileSystem, R: Wait + Clock + Th
     files: &mut S,
     choice: &DrawChoice<'a>,
 ) -> Result<ExitStatus, Stop<'a>>
-    requires { IfSome choice.now.workers (λ n. (1 ≤ n) × (n ≤ 16)) }
-    ensures done { IfOk result (DrawsChoice (family K.Kinds) K.named K.signature (S.contents files.old) (S.clash files.old) (S.is_steady files.old) (S.effects files.old) (S.effects files.new) K.title choice.now) }
-    ensures stop { IfErr result (IsDrawStop K.named K.signature (S.contents files.old) (S.clash files.old) choice.now) }
-    ensures untouched { OnErr result (S.effects files.new ≡ S.effects files.old) }
+    ensures { EndsDraw (family K.Kinds) K.named K.signature (S.contents files.old) (S.clash files.old) (S.is_steady files.old) (S.effects files.old) (S.effects files.new) K.title choice.now result }
 {
     let workers = choice.workers.unwrap_or(1);
     let wanted = network_in(choice.file, choice.formats.as_slice(), workers);
@@ -68,7 +64,6 @@ fn drawn<K: Computes + Titled, S: FileSystem, R: Wait + Clock + Threads + Sync>(
     wanted: &WantedPicture<'_>,
     name: &str,
 ) -> Result<String, Unserved>
-    requires { HasFewWorkers wanted.now.request.now }
     ensures { ServesNamed (S.contents files.now) K.named K.signature (GivesPicture (family K.Kinds) K.named K.title wanted.now.direction wanted.now.is_run wanted.now.request.now) name.now result }
 {
     let mut source = match files.open(name) {

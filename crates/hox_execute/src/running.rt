@@ -1,10 +1,10 @@
 //! Runs a network.
-ghost use Rattle.std.specs.Prelude.{◌≡◌, ◌≤◌, IfOk, IfErr, OnErr, string_bytes};
+ghost use Rattle.std.specs.Prelude.{◌≡◌, IfOk, string_bytes};
 ghost use Rattle.kpn_model.specs.Families.{family};
-ghost use Rattle.hox_network.specs.Preparing.{HasFewWorkers};
 ghost use Rattle.hox_run.specs.Serving.{GivesRun};
-ghost use Rattle.hox_execute.specs.Program.{IsRunStop, RunsChoice, want_of_run};
-ghost use Rattle.hox_execute.specs.Reports.{IsNoted, Writes, rate_of, report_as, written_of};
+ghost use Rattle.hox_execute.specs.Commands.{Ends, HasWritten};
+ghost use Rattle.hox_execute.specs.Program.{EndsRun, want_of_run};
+ghost use Rattle.hox_execute.specs.Reports.{rate_of, report_as};
 ghost use Rattle.hox_files.specs.Requests.{want_of};
 ghost use Rattle.hox_files.specs.Served.{ServesNamed};
 
@@ -54,10 +54,7 @@ pub(crate) fn run<
     choice: &RunChoice<'a>,
     progress: &P,
 ) -> Result<Ran<'a>, Stop<'a>>
-    requires { (1 ≤ choice.now.workers) × (choice.now.workers ≤ 16) }
-    ensures done { IfOk result (λ ran. RunsChoice (family K.Kinds) K.named K.signature (S.contents files.old) (S.clash files.old) (S.is_steady files.old) (S.effects files.old) (S.effects files.new) choice.now ran) }
-    ensures stop { IfErr result (IsRunStop K.named K.signature (S.contents files.old) (S.clash files.old) choice.now) }
-    ensures untouched { OnErr result (S.effects files.new ≡ S.effects files.old) }
+    ensures { EndsRun (family K.Kinds) K.named K.signature (S.contents files.old) (S.clash files.old) (S.is_steady files.old) (S.effects files.old) (S.effects files.new) choice.now result }
 {
     let wanted = wanted_of(choice);
     let (tokens, outputs) = (choice.tokens.as_slice(), choice.outputs.as_slice());
@@ -83,8 +80,7 @@ pub(crate) fn run<
 
 /// Returns the options of the command.
 fn wanted_of<'a, 'b>(choice: &'b RunChoice<'a>) -> CommandOptions<'a, 'b>
-    ensures want { want_of result ≡ want_of_run choice.now }
-    ensures workers { result.workers ≡ choice.now.workers }
+    ensures { want_of result ≡ want_of_run choice.now }
 {
     CommandOptions {
         file: name_of(choice.file),
@@ -106,10 +102,7 @@ fn ran_of<'a, S: FileSystem>(
     asked: Asked<'a>,
     wanted: CommandOptions<'_, '_>,
 ) -> Result<Ran<'a>, Stop<'a>>
-    ensures writes { IfOk result (λ ran. Writes told.status (written_of (want_of wanted.entry) (rate_of asked.entry.request.tokens) asked.entry.outputs.items told) (S.is_steady files.old) (S.effects files.old) (S.effects files.new) ran.status) }
-    ensures notes { IfOk result (IsNoted asked.entry.tokens.items asked.entry.outputs.items told) }
-    ensures stop { IfErr result (λ stop. stop ≡ Stop.Memory) }
-    ensures untouched { OnErr result (S.effects files.new ≡ S.effects files.old) }
+    ensures { Ends (HasWritten (want_of wanted.entry) asked.entry told (S.is_steady files.old) (S.effects files.old) (S.effects files.new)) (λ stop. stop ≡ Stop.Memory) (S.effects files.old) (S.effects files.new) result }
 {
     let Asked {
         tokens,
@@ -175,7 +168,6 @@ fn told_of<K: Computes, S: FileSystem, R: Wait + Clock + Threads + Sync, P: Prog
     wanted: &RequestOf<'_>,
     progress: &P,
 ) -> Result<Told, Unserved>
-    requires { HasFewWorkers wanted.now.request.now }
     ensures { ServesNamed (S.contents files.now) K.named K.signature (GivesRun (family K.Kinds) wanted.now.request.now) wanted.now.file.now result }
 {
     let mut source = match files.open(wanted.file) {

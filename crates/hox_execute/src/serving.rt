@@ -3,8 +3,7 @@ ghost use Rattle.std.specs.Prelude.{◌≡◌, IfOk, IfErr, MatchResult, OnErr, 
 ghost use Rattle.kpn_front.specs.declared.status.ExitStatus.{ExitStatus as ExitStatusV};
 ghost use Rattle.hox_execute.specs.declared.running.Ran.{Ran as RanV};
 ghost use Rattle.kpn_model.specs.Families.{family};
-ghost use Rattle.hox_args.specs.HoxChoices.{HasFewHoxWorkers};
-ghost use Rattle.hox_execute.specs.Program.{Does, IsProgramStop, IsStopIn, Serves};
+ghost use Rattle.hox_execute.specs.Program.{EndsChoice, IsProgramStop, Serves};
 
 use crate::checking::{check, network_in};
 use crate::drawing::draw;
@@ -76,10 +75,7 @@ fn execute_choice<
     choice: Choice<'a>,
     progress: &P,
 ) -> Result<Executed<'a>, Stop<'a>>
-    requires { HasFewHoxWorkers choice }
-    ensures done { IfOk result (Does (family K.Kinds) K.named K.signature (S.contents files.old) (S.clash files.old) (S.is_steady files.old) (S.effects files.old) (S.effects files.new) K.title choice.entry) }
-    ensures stop { IfErr result (IsStopIn K.named K.signature (S.contents files.old) (S.clash files.old) choice.entry) }
-    ensures untouched { OnErr result (S.effects files.new ≡ S.effects files.old) }
+    ensures { EndsChoice (family K.Kinds) K.named K.signature (S.contents files.old) (S.clash files.old) (S.is_steady files.old) (S.effects files.old) (S.effects files.new) K.title choice.entry result }
 {
     match choice {
         Choice::Check(chosen) => {

@@ -313,37 +313,6 @@ fn run_between<'a, F: Computes, S: FileSystem, L: Onlooker>(
     let rate = rate_of(sources.as_slice());
     let sinks = sinks_of(alloc, files, ends.outputs.as_slice(), rate)?;
     let tables = tables_of(alloc, files, ends.outputs.as_slice(), rate)?;
-    let opened = OpenFiles {
-        sources,
-        sinks,
-        tables,
-    };
-    run_opened(alloc, ends, start, opened, onlooker)
-}
-
-/// The files of a stream, opened: those of its inputs, of the outputs with a file alone, and of the others.
-#[derive(Drop)]
-struct OpenFiles<I, O> {
-    sources: Vec<Begun<Resumed<I>>>,
-    sinks: Vec<LaidOut<O>>,
-    tables: Vec<LaidTable<O>>,
-}
-
-fn run_opened<'a, F: Computes, I: Source + Drop, O: Sink + Drop, L: Onlooker>(
-    alloc: Global,
-    ends: StreamEnds<'a>,
-    start: OpenStream<F>,
-    opened: OpenFiles<I, O>,
-    onlooker: &L,
-) -> Result<Streamed<'a, F, Resumed<I>, O>, StreamStop<'a>>
-    ensures done { IfOk result (λ s. (s.ends ≡ ends.entry) × Serves (family F.Kinds) start s.served.flow (new_inlets (left_of I.remaining) (resumed_has_failed I.has_failed) start.network start.inputs (map laid_source opened.sources.items)) s.served.inlets.items (new_outs O.seen start.outputs opened.sinks.items opened.tables.items) (outs s.served.outlets.items s.served.tables.items) s.served.finish) }
-    ensures stop { IfErr result (IsUnfit ends.entry) }
-{
-    let OpenFiles {
-        sources,
-        sinks,
-        tables,
-    } = opened;
     let Ok(sources) = laid_out(alloc, sources) else {
         return Err(StreamStop::Asked(Stop::Memory));
     };

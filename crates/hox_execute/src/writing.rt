@@ -1,7 +1,7 @@
 //! Writes a report and streams.
 ghost use Rattle.std.specs.Prelude.{◌≡◌, ◌++◌, true, List, [], ◌∷◌, Option, if◌then◌else◌, string_bytes};
 ghost use Rattle.hox_files.specs.Files.{Effect, standard, wrote};
-ghost use Rattle.hox_execute.specs.Reports.{Tries, Writes, reported, streams_written, told_written};
+ghost use Rattle.hox_execute.specs.Reports.{Tries, TriesAll, Writes, reported, streams_written, told_written};
 
 use hox_files::files::FileSystem;
 use hox_files::pairs::{Pair, STANDARD, is_output_named};
@@ -43,8 +43,7 @@ fn write_all<S: FileSystem>(
     outputs: &[Pair<'_>],
     texts: &[Listed<u8>],
 ) -> bool
-    ensures tries { Tries (reported outputs.now report.now ∷ streams_written outputs.now texts.now) result (S.effects files.old) (S.effects files.new) }
-    ensures steady { S.is_steady files.old ≡ true → (result ≡ true) × (S.is_steady files.new ≡ true) }
+    ensures { TriesAll (reported outputs.now report.now ∷ streams_written outputs.now texts.now) result (S.is_steady files.old) (S.effects files.old) (S.is_steady files.new) (S.effects files.new) }
 {
     let is_reported = write_report(files, report, outputs);
     let are_written = write_streams(files, outputs, texts);
@@ -62,8 +61,7 @@ fn status_if(is_written: bool, status: ExitStatus) -> ExitStatus
 }
 
 fn write_report<S: FileSystem>(files: &mut S, report: &str, outputs: &[Pair<'_>]) -> bool
-    ensures tries { Tries (reported outputs.now report.now ∷ []) result (S.effects files.old) (S.effects files.new) }
-    ensures steady { S.is_steady files.old ≡ true → (result ≡ true) × (S.is_steady files.new ≡ true) }
+    ensures { TriesAll (reported outputs.now report.now ∷ []) result (S.is_steady files.old) (S.effects files.old) (S.is_steady files.new) (S.effects files.new) }
 {
     if is_output_named(outputs) {
         files.say(report).is_ok()
@@ -74,8 +72,7 @@ fn write_report<S: FileSystem>(files: &mut S, report: &str, outputs: &[Pair<'_>]
 
 /// Writes each stream to its file, even if another write fails. Returns whether all were written.
 fn write_streams<S: FileSystem>(files: &mut S, outputs: &[Pair<'_>], texts: &[Listed<u8>]) -> bool
-    ensures tries { Tries (streams_written outputs.now texts.now) result (S.effects files.old) (S.effects files.new) }
-    ensures steady { S.is_steady files.old ≡ true → (result ≡ true) × (S.is_steady files.new ≡ true) }
+    ensures { TriesAll (streams_written outputs.now texts.now) result (S.is_steady files.old) (S.effects files.old) (S.is_steady files.new) (S.effects files.new) }
 {
     let mut are_written = true;
     for k in 0..outputs.len().min(texts.len()) {
@@ -100,8 +97,7 @@ fn write_next<S: FileSystem>(
 }
 
 fn write_stream<S: FileSystem>(files: &mut S, pair: Pair<'_>, text: &Listed<u8>) -> bool
-    ensures tries { Tries (wrote pair.entry.file.now text.now ∷ []) result (S.effects files.old) (S.effects files.new) }
-    ensures steady { S.is_steady files.old ≡ true → (result ≡ true) × (S.is_steady files.new ≡ true) }
+    ensures { TriesAll (wrote pair.entry.file.now text.now ∷ []) result (S.is_steady files.old) (S.effects files.old) (S.is_steady files.new) (S.effects files.new) }
 {
     files.write(pair.file, text.as_slice()).is_ok()
 }

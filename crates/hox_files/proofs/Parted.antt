@@ -1,9 +1,13 @@
 -- What texts say of channels, one part after the other.
 use Rattle.std.proofs.Common.{◌≡◌, ◌<◌, ◌≤◌, ◌+◌, ◌++◌, ℕ, zero, suc, List, [], ◌∷◌, Bor, get_or, length, drop, append_assoc, add-one, refl, sym, ap, subst, ◌∙◌, arith}
-use Rattle.std.proofs.lemmas.List.{append-nil}
+use Rattle.std.proofs.lemmas.List.{append-nil, length-map}
 use Rattle.std.specs.List.{AllZip, flat_map}
-use Rattle.hox_files.specs.Pairs.{part_at, parts, parts_from}
+use Rattle.hox_format.specs.Forms.{form}
+use Rattle.hox_files.specs.declared.pairs.Pair.{Pair}
+use Rattle.hox_files.specs.Formats.{IsForm}
+use Rattle.hox_files.specs.Pairs.{IsPair, part_at, parts, parts_from}
 use Rattle.hox_files.proofs.Firsts.{left_at, texts_of}
+use Rattle.hox_files.proofs.Zipped.{mapped_at, same_default}
 
 pub zip_append : {A B : Type 0} (R : A → B → Type 0) (xs more : List A) (ys later : List B) → AllZip R xs ys → AllZip R more later → AllZip R (xs ++ more) (ys ++ later)
 zip_append R [] more [] later all rest = rest
@@ -44,3 +48,21 @@ nothing_left (x ∷ xs) (suc k) h = nothing_left xs k (omega (arith, h))
 
 pub completes_none : {A B : Type 0} (R : A → B → Type 0) (whole : List A) (so_far : List B) → so_far ≡ [] → Completes R whole so_far whole
 completes_none {A} {B} R whole so_far is more all = subst (λ (l : List B). AllZip R whole (l ++ more)) (sym is) all
+
+-- the next pair is that of the next channel
+pub pair_more :
+    (formats unsigned : List (List ℕ)) (file : List ℕ) (names : List (Bor (List ℕ))) (k : ℕ) (d : Bor (List ℕ)) (pair : Pair) (before after : List Pair) → k < length names
+    → after ≡ before ++ pair ∷ [] → pair.channel.now ≡ (get_or names k d).now → pair.file.now ≡ file → pair.place ≡ k → pair.count ≡ length names → IsForm formats unsigned pair.channel.now pair.file.now (form pair.format)
+    → Completes (IsPair formats unsigned) (parts_from file (length names) 0 (texts_of names)) before (parts_from file (length names) k (drop k (texts_of names)))
+    → Completes (IsPair formats unsigned) (parts_from file (length names) 0 (texts_of names)) after (parts_from file (length names) (k + 1) (drop (k + 1) (texts_of names)))
+pair_more formats unsigned file names k d pair before after within pushed channel_is file_is place_is count_is format so_far =
+    let R = IsPair formats unsigned in
+    let text : Bor (List ℕ) → List ℕ = λ n. n.now in
+    let inside : k < length (texts_of names) = omega (arith, length-map names text, within) in
+    let at : (get_or names k d).now ≡ get_or (texts_of names) k [] = sym (mapped_at text names k d) ∙ same_default (texts_of names) k d.now [] inside in
+    let is : R (part_at file (length names) k (get_or (texts_of names) k [])) pair = record { channel = channel_is ∙ at; file = file_is; place = place_is; count = count_is; format = format } in
+    let whole = parts_from file (length names) 0 (texts_of names) in
+    let left = parts_from file (length names) (k + 1) (drop (k + 1) (texts_of names)) in
+    let first = part_at file (length names) k (get_or (texts_of names) k []) ∷ [] in
+    let more = completes_more R whole before (pair ∷ []) first left (parts_from file (length names) k (drop k (texts_of names))) so_far (part_left file (length names) (texts_of names) k inside) (is, tt) in
+    subst (λ (items : List Pair). Completes R whole items left) (sym pushed) more

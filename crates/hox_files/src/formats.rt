@@ -3,7 +3,7 @@ ghost use Rattle.std.specs.Prelude.{◌≡◌, ℕ, List, map, IfErr, IfOk, OnOk
 ghost use Rattle.std.specs.List.{Contains, after_first, before_first};
 ghost use Rattle.hox_format.specs.Forms.{form};
 ghost use Rattle.hox_format.specs.Saying.{seen};
-ghost use Rattle.hox_files.specs.Formats.{IsForm, IsNoFormat, format_text, is_equals, is_named, is_text_of, marked, named_twice, said_for, said_of_all};
+ghost use Rattle.hox_files.specs.Formats.{IsForm, IsNoFormat, format_text, is_equals, is_named, is_text_of, marked, named_twice, said_for};
 ghost use Rattle.hox_files.specs.Pairs.{AreUsable, IsUnusable, IsUsable, has_channel, is_of_use};
 
 use crate::pairs::Pair;
@@ -71,17 +71,10 @@ fn said_for<'a>(texts: &[&'a str], channel: &str, file: &str) -> Result<Format<'
 {
     match format_text(texts, channel) {
         Some(text) => format_of(text),
-        None => said_of_all(texts, file),
-    }
-}
-
-fn said_of_all<'a>(texts: &[&'a str], file: &str) -> Result<Format<'a>, FormatFault<'a>>
-    ensures said { seen result ≡ said_of_all (map (λ t. t.now) texts.now) file.now }
-    ensures fault { IfErr result (λ e. IsNoFormat (map (λ t. t.now) texts.now) (FormatStop.Unknown e)) }
-{
-    match format_text(texts, ALL) {
-        Some(text) => format_of(text),
-        None => Ok(Format::of_file(file)),
+        None => match format_text(texts, ALL) {
+            Some(text) => format_of(text),
+            None => Ok(Format::of_file(file)),
+        },
     }
 }
 

@@ -1,10 +1,10 @@
 //! Arguments that name a channel and a file.
-ghost use Rattle.std.specs.Prelude.{◌≡◌, ◌<◌, ℕ, true, List, [], get_or, length, map, IfOk, IfErr, OnOk, unwrap_or, option_map, nat_lt};
+ghost use Rattle.std.specs.Prelude.{◌≡◌, ℕ, true, List, length, map, IfOk, IfErr, OnOk, unwrap_or, option_map, nat_lt};
 ghost use Rattle.std.specs.List.{All, AllZip, Contains, filter, flat_map};
 ghost use Rattle.hox_format.specs.Saying.{pieces};
 ghost use Rattle.hox_files.specs.Files.{standard};
-ghost use Rattle.hox_files.specs.Formats.{HasEquals, IsNoFormat};
-ghost use Rattle.hox_files.specs.Pairs.{ArePairs, AreShared, IsPair, IsUnlike, IsUnpaired, IsUnsaid, IsUnshared, count_standard, firsts, in_order, is_alone, is_grouped, is_named_twice, is_single, part_at, parts, parts_from, shared_in};
+ghost use Rattle.hox_files.specs.Formats.{HasEquals};
+ghost use Rattle.hox_files.specs.Pairs.{ArePairs, AreShared, IsPair, IsUnlike, IsUnpaired, IsUnsaid, IsUnshared, count_standard, firsts, in_order, is_alone, is_grouped, is_named_twice, is_single, parts, parts_from, shared_in};
 
 use crate::formats::{FormatStop, Formats, format_for};
 use crate::stops::Stop;
@@ -111,37 +111,26 @@ fn pairs_for<'a>(
     ensures each { IfOk result (λ v. AllZip (IsPair (map (λ t. t.now) formats.entry.texts.now) (map (λ s. s.now) formats.entry.unsigned.now)) (parts_from file.now (length names.now) 0 (map (λ s. s.now) names.now)) v.items) }
     ensures fault { (option : List ℕ) (texts : List (List ℕ)) → IfErr result (IsUnsaid (map (λ t. t.now) formats.entry.texts.now) option texts) }
 {
+    let count = names.len();
     let mut pairs = Vec::new(alloc);
-    for place in 0..names.len() {
-        let pair = match pair_at(names, place, file, formats) {
-            Ok(pair) => pair,
+    for place in 0..count {
+        let channel = names[place];
+        let format = match format_for(formats, channel, file) {
+            Ok(format) => format,
             Err(stop) => return Err(Stop::Format(stop)),
+        };
+        let pair = Pair {
+            channel,
+            file,
+            format,
+            place,
+            count,
         };
         if pairs.push(pair).is_err() {
             return Err(Stop::Memory);
         }
     }
     Ok(pairs)
-}
-
-fn pair_at<'a>(
-    names: &[&'a str],
-    place: usize,
-    file: &'a str,
-    formats: Formats<'a, '_>,
-) -> Result<Pair<'a>, FormatStop<'a>>
-    requires { place < length names.now }
-    ensures ok { IfOk result (IsPair (map (λ t. t.now) formats.entry.texts.now) (map (λ s. s.now) formats.entry.unsigned.now) (part_at file.now (length names.now) place (get_or (map (λ s. s.now) names.now) place []))) }
-    ensures fault { IfErr result (IsNoFormat (map (λ t. t.now) formats.entry.texts.now)) }
-{
-    let channel = names[place];
-    Ok(Pair {
-        channel,
-        file,
-        format: format_for(formats, channel, file)?,
-        place,
-        count: names.len(),
-    })
 }
 
 /// Checks that each file given for several channels has one format for all.

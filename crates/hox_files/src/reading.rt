@@ -1,8 +1,7 @@
 //! Reads the files of tokens that a command names.
-ghost use Rattle.std.specs.Prelude.{◌≡◌, ◌<◌, IfOk, IfErr, IfSome, false, map, length, get_or};
+ghost use Rattle.std.specs.Prelude.{◌≡◌, IfOk, IfErr, IfSome, map};
 ghost use Rattle.std.specs.List.{AllZip};
 ghost use Rattle.hox_files.specs.Pairs.{channels_of};
-ghost use Rattle.hox_files.specs.declared.pairs.Pair.{Pair as PairV};
 ghost use Rattle.hox_format.specs.Records.{records_bytes};
 ghost use Rattle.hox_files.specs.Requests.{AsksRest, IsAsked, IsErrorIn, IsFileOf, IsNoFileOf, IsRead, IsReadError, IsRequest, IsUnasked, IsUnfetched, is_told, shown_as, want_of, written_as};
 
@@ -213,33 +212,23 @@ fn token_files<'a, S: FileSystem>(
 {
     let mut read = Vec::new(alloc);
     for k in 0..pairs.len() {
-        let file = token_file(alloc, files, pairs, k)?;
+        let pair = pairs[k];
+        let bytes = match read_file(alloc, files, pair.file) {
+            Ok(bytes) => bytes,
+            Err(ReadError::Memory) => return Err(Stop::Memory),
+            Err(error) => {
+                return Err(Stop::Unread {
+                    file: pair.file,
+                    error,
+                });
+            }
+        };
+        let file = file_of(alloc, pair, bytes)?;
         if read.push(file).is_err() {
             return Err(Stop::Memory);
         }
     }
     Ok(read)
-}
-
-fn token_file<'a, S: FileSystem>(
-    alloc: Global,
-    files: &S,
-    pairs: &[Pair<'a>],
-    k: usize,
-) -> Result<TokenFile, Stop<'a>>
-    requires { k < length pairs.now }
-    ensures ok { IfOk result (λ file. (p : PairV) × (p ≡ get_or pairs.now k p) × IsRead (S.contents files.now) p file) }
-    ensures fault { IfErr result (IsUnfetched (S.contents files.now) pairs.now) }
-{
-    let pair = pairs[k];
-    match read_file(alloc, files, pair.file) {
-        Ok(bytes) => file_of(alloc, pair, bytes),
-        Err(ReadError::Memory) => Err(Stop::Memory),
-        Err(error) => Err(Stop::Unread {
-            file: pair.file,
-            error,
-        }),
-    }
 }
 
 fn file_of<'a>(alloc: Global, pair: Pair<'a>, bytes: Vec<u8>) -> Result<TokenFile, Stop<'a>>

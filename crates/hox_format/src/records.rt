@@ -1,5 +1,5 @@
 //! Finds the records of a file.
-ghost use Rattle.std.specs.Prelude.{◌≡◌, ◌<◌, ◌≤◌, ◌*◌, ◌^◌, IfOk, IfSome, drop, length, nat_lt, position, take, true};
+ghost use Rattle.std.specs.Prelude.{◌≡◌, ◌<◌, ◌≤◌, ◌*◌, ◌^◌, IfOk, IfSome, drop, length, nat_lt, take, true};
 ghost use Rattle.std.specs.List.{position_or_len};
 ghost use Rattle.kpn_tokens.specs.Rows.{is_line_feed};
 ghost use Rattle.kpn_tokens.specs.Samples.{bytes_in};
@@ -9,7 +9,7 @@ ghost use Rattle.hox_format.specs.Forms.{form, table_of};
 use crate::formats::{Csv, Format, Raw, Wav, Which};
 use kpn_tokens::{
     Column, Cut, Frame, LONGEST_HEAD, Layout, RecordFault, Sample, WavFault, WavHead, Width,
-    column_named, wav_head,
+    column_named, line_feed_in, wav_head,
 };
 use std::alloc::{AllocError, Global};
 
@@ -199,12 +199,6 @@ fn line_length(bytes: &[u8]) -> usize
         Some(length) => length,
         None => bytes.len(),
     }
-}
-
-fn line_feed_in(bytes: &[u8]) -> Option<usize>
-    ensures { result ≡ position is_line_feed bytes.now }
-{
-    bytes.iter().position(|b| *b == b'\n')
 }
 
 fn wav_records(

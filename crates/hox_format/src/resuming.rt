@@ -1,5 +1,5 @@
 //! Opens files at their records.
-ghost use Rattle.std.specs.Prelude.{◌≡◌, ◌≤◌, ◌++◌, ℕ, List, false, drop, vec_len, Option, IfErr, IfOk, OnOk};
+ghost use Rattle.std.specs.Prelude.{◌≡◌, ◌≤◌, ℕ, List, false, drop, vec_len, Option, IfErr, IfOk, OnOk};
 ghost use Rattle.hox_format.specs.Forms.{form};
 ghost use Rattle.hox_format.specs.Resuming.{IsBegun, IsFrontOf, IsNoHead, IsUnbegun, left_in, left_of, resumed_has_failed, source_of};
 
@@ -115,18 +115,11 @@ fn read_on<S: Source>(front: &mut Front<S>) -> Result<(), BeginFault>
     match front.source.read(&mut piece) {
         Ok(n) => {
             front.is_last = n == 0;
-            append(&mut front.held, &piece[..n])
+            match front.held.extend_from_slice(&piece[..n]) {
+                Ok(()) => Ok(()),
+                Err(_) => Err(BeginFault::Memory),
+            }
         }
         Err(error) => Err(BeginFault::Unread(error)),
-    }
-}
-
-fn append(held: &mut Vec<u8>, bytes: &[u8]) -> Result<(), BeginFault>
-    ensures appended { OnOk result (held.new.items ≡ held.old.items ++ bytes.now) }
-    ensures fault { IfErr result IsNoHead }
-{
-    match held.extend_from_slice(bytes) {
-        Ok(()) => Ok(()),
-        Err(_) => Err(BeginFault::Memory),
     }
 }

@@ -1,6 +1,6 @@
 //! The symbols of bytes.
-ghost use Rattle.std.specs.Prelude.{◌≡◌, ℕ, ◌<◌, ◌∷◌, [], List, IfOk, OnOk, ◌++◌, false, IfSome, MatchOption, IsTrue, ◌≤◌, ◌+◌, length, Some, drop};
-ghost use Rattle.hox_formula.specs.Lexing.{is_blank, is_digit, is_word_byte, front_word, behind_word, same, pair_mark, single_mark, fixed, digit_value, number_of, word_number, begins_with_digit, is_hexadecimal, place_in, EndsWord, texts, begins_pair, begins_with_word_byte, PairAt, SpellsMark, SpellsNothing, IsPlaceOf, IsWordOf, IsNext, Spells};
+ghost use Rattle.std.specs.Prelude.{◌≡◌, ◌<◌, ◌∷◌, [], IfOk, OnOk, ◌++◌, false, IfSome, MatchOption, IsTrue, ◌≤◌, ◌+◌, length, Some};
+ghost use Rattle.hox_formula.specs.Lexing.{is_blank, is_digit, is_word_byte, front_word, behind_word, same, pair_mark, single_mark, fixed, number_of, word_number, begins_with_digit, is_hexadecimal, place_in, EndsWord, texts, begins_pair, begins_with_word_byte, PairAt, SpellsMark, SpellsNothing, IsPlaceOf, IsWordOf, IsNext, Spells};
 
 use crate::fault::{ParseFault, Wrong};
 use crate::symbol::{Mark, Symbol};
@@ -129,18 +129,6 @@ fn fixed(word: &[u8]) -> Option<Symbol>
     }
 }
 
-/// Returns the number of a digit; 16 if it is none.
-fn digit_value(byte: u8) -> u64
-    ensures { result ≡ digit_value byte }
-{
-    match byte {
-        b'0'..=b'9' => u64::from(byte - b'0'),
-        b'a'..=b'f' => u64::from(byte - 87),
-        b'A'..=b'F' => u64::from(byte - 55),
-        _ => 16,
-    }
-}
-
 /// Returns the number of digits, behind those of a number.
 fn number_of(base: u64, number: u64, digits: &[u8]) -> Result<u64, Wrong>
     ensures { IfOk result (λ n. number_of base number digits.now ≡ Some n) }
@@ -148,7 +136,12 @@ fn number_of(base: u64, number: u64, digits: &[u8]) -> Result<u64, Wrong>
     let Some((first, rest)) = front_byte(digits) else {
         return Ok(number);
     };
-    let digit = digit_value(first);
+    let digit = match first {
+        b'0'..=b'9' => u64::from(first - b'0'),
+        b'a'..=b'f' => u64::from(first - 87),
+        b'A'..=b'F' => u64::from(first - 55),
+        _ => return Err(Wrong::StrangeCharacter),
+    };
     if digit >= base {
         return Err(Wrong::StrangeCharacter);
     }

@@ -1,8 +1,8 @@
 //! Which names a formula has.
-ghost use Rattle.std.specs.Prelude.{◌≡◌, ℕ, ◌<◌, ◌≤◌, ◌+◌, Bool, ◌==◌, nat_lt, drop, IfOk, IfSome, OnOk};
+ghost use Rattle.std.specs.Prelude.{◌≡◌, ◌==◌, nat_lt, IfOk, IfSome, OnOk};
 ghost use Rattle.std.specs.List.{list_any};
 ghost use Rattle.hox_formula.specs.Parsing.{naming};
-ghost use Rattle.hox_formula.specs.Formulas.{AreFirst, IsNaming, is_input, is_output, with_state, with_states, states_of};
+ghost use Rattle.hox_formula.specs.Formulas.{IsNaming, is_input, is_output, with_state, states_of};
 
 use crate::fault::{ParseFault, Wrong};
 use crate::names::Names;
@@ -34,7 +34,6 @@ fn has_output(k: u8, symbols: &[Symbol]) -> bool
 
 /// Returns how many ports there are, if none before another is missing.
 fn count(first: bool, second: bool, third: bool) -> Option<u8>
-    ensures few { IfSome result (λ n. n ≤ 3) }
     ensures first { IfSome result (λ n. first ≡ nat_lt 0 n) }
     ensures second { IfSome result (λ n. second ≡ nat_lt 1 n) }
     ensures third { IfSome result (λ n. third ≡ nat_lt 2 n) }
@@ -46,30 +45,6 @@ fn count(first: bool, second: bool, third: bool) -> Option<u8>
         (true, true, true) => Some(3),
         _ => None,
     }
-}
-
-/// Returns how many inputs there are.
-fn count_inputs(symbols: &[Symbol]) -> Option<u8>
-    ensures few { IfSome result (λ n. n ≤ 3) }
-    ensures is { IfSome result (λ n. AreFirst n (λ k. list_any (is_input k) symbols.now)) }
-{
-    count(
-        has_input(0, symbols),
-        has_input(1, symbols),
-        has_input(2, symbols),
-    )
-}
-
-/// Returns how many outputs there are.
-fn count_outputs(targets: &[Symbol]) -> Option<u8>
-    ensures few { IfSome result (λ n. n ≤ 3) }
-    ensures is { IfSome result (λ n. AreFirst n (λ k. list_any (is_output k) targets.now)) }
-{
-    count(
-        has_output(0, targets),
-        has_output(1, targets),
-        has_output(2, targets),
-    )
 }
 
 /// Adds a state that isn't there yet.
@@ -120,10 +95,18 @@ pub fn names_of(alloc: Global, symbols: &[Symbol], targets: &[Symbol]) -> Result
     ensures { IfOk result (λ names. IsNaming (naming names) symbols.now targets.now) }
 {
     let states = states_of(alloc, targets)?;
-    let Some(outputs) = count_outputs(targets) else {
+    let Some(outputs) = count(
+        has_output(0, targets),
+        has_output(1, targets),
+        has_output(2, targets),
+    ) else {
         return Err(ParseFault::at(&[], Wrong::Gap));
     };
-    let Some(inputs) = count_inputs(symbols) else {
+    let Some(inputs) = count(
+        has_input(0, symbols),
+        has_input(1, symbols),
+        has_input(2, symbols),
+    ) else {
         return Err(ParseFault::at(&[], Wrong::Gap));
     };
     let words = states.len() + usize::from(outputs) + usize::from(inputs);

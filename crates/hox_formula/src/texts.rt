@@ -1,5 +1,5 @@
 //! From texts to cards.
-ghost use Rattle.std.specs.Prelude.{◌≡◌, ◌≤◌, ◌+◌, length, IfOk, IfErr};
+ghost use Rattle.std.specs.Prelude.{◌≤◌, ◌+◌, length, IfOk, IfErr};
 ghost use Rattle.hox_formula.specs.Texts.{IsCardOfText, Ends};
 
 use crate::compiling::card_of_symbols;
@@ -36,14 +36,6 @@ fn at_symbol(stop: ParseFault, count: usize, spans: &[Span], text_length: usize)
     }
 }
 
-/// Returns the fault where the reading of bytes stopped.
-fn at_byte(stop: ParseFault, text_length: usize) -> FormulaFault
-    ensures { result.at + result.length ≤ text_length }
-{
-    let at = text_length.saturating_sub(stop.left);
-    FormulaFault::within(text_length, at, 1, stop.wrong)
-}
-
 /// Compiles a formula, such as `y = y + (in - y) / 8; out = y`, into the card of a process.
 ///
 /// # Errors
@@ -63,7 +55,10 @@ pub fn compile(alloc: Global, text: &str) -> Result<Card, FormulaFault>
         names,
     } = match lex(alloc, bytes) {
         Ok(lexed) => lexed,
-        Err(stop) => return Err(at_byte(stop, bytes.len())),
+        Err(stop) => {
+            let at = bytes.len().saturating_sub(stop.left);
+            return Err(FormulaFault::within(bytes.len(), at, 1, stop.wrong));
+        }
     };
     let symbols = match ended(symbols) {
         Ok(symbols) => symbols,

@@ -1,7 +1,6 @@
 //! Opens a session.
 ghost use Rattle.std.specs.Prelude.{◌≡◌, IfOk, IfErr};
-ghost use Rattle.kpn_sketch.specs.Description.{IsDelayedFault};
-ghost use Rattle.hox_handle.specs.Opening.{answer_of, answer_of_stream, IsReadAs, IsSessionFault, IsUnopened, Opens, OpensBetween};
+ghost use Rattle.hox_handle.specs.Opening.{answer_of, answer_of_stream, IsSessionFault, IsUnopened, Opens, OpensBetween};
 
 use crate::answers::ReturnCode;
 use crate::names::names_in;
@@ -10,7 +9,7 @@ use hox_network::{AllKinds, sketch_by_ports};
 use hox_stream::{NameFault, StreamFault, open_stream};
 use kpn_model::Text;
 use kpn_model::limits::LONGEST_TEXT;
-use kpn_net::{NetFault, Sketch, read_delayed};
+use kpn_net::{NetFault, read_delayed};
 use std::alloc::Global;
 
 /// Why a session was not opened.
@@ -92,9 +91,11 @@ fn open_between(
     if text.len() > LONGEST_TEXT {
         return Err(StreamFault::Description(NetFault::Input));
     }
-    let sketch = match sketch_of(alloc, text) {
-        Ok(sketch) => sketch,
-        Err(fault) => return Err(StreamFault::Description(fault)),
+    if let Err(fault) = read_delayed(alloc, text) {
+        return Err(StreamFault::Description(fault));
+    }
+    let Some(sketch) = sketch_by_ports::<AllKinds>(alloc, text) else {
+        return Err(StreamFault::Description(NetFault::Memory));
     };
     match open_stream::<AllKinds>(alloc, sketch, fed, drained) {
         Ok(opened) => {
@@ -106,17 +107,5 @@ fn open_between(
             })
         }
         Err(fault) => Err(fault),
-    }
-}
-
-/// The sketch of a text, completed by `sketch_by_ports`.
-fn sketch_of(alloc: Global, text: &[u8]) -> Result<Sketch, NetFault>
-    ensures ok { IfOk result (IsReadAs text.now) }
-    ensures fault { IfErr result (IsDelayedFault text.now) }
-{
-    let _read = read_delayed(alloc, text)?;
-    match sketch_by_ports::<AllKinds>(alloc, text) {
-        Some(sketch) => Ok(sketch),
-        None => Err(NetFault::Memory),
     }
 }

@@ -36,16 +36,6 @@ fn run_net(alloc: Global, net: Net<AllKinds>) -> Result<RunReport, AllocError>
     ensures { IfOk result (IsRunTold net) }
 {
     let bodies = bodies_of(alloc, &net)?;
-    run_bodies(alloc, net, bodies)
-}
-
-fn run_bodies(
-    alloc: Global,
-    net: Net<AllKinds>,
-    bodies: Vec<CardBody<AllKinds>>,
-) -> Result<RunReport, AllocError>
-    ensures { IfOk result (IsRunTold net) }
-{
     let opened = Machine::<CardBody<AllKinds>, Tallied>::open_with_keeper(alloc, net, bodies);
     let Ok(mut machine) = opened else {
         return Err(AllocError);

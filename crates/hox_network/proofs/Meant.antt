@@ -1,16 +1,21 @@
 -- A text whose sketch is read as it is meant.
-use Rattle.std.proofs.Common.{◌≡◌, ℕ, Bool, false, List, [], ◌∷◌, Option, Some, None, IfSome, Result, refl, sym, ◌∙◌}
+use Rattle.std.proofs.Common.{◌≡◌, ◌≢◌, ◌≤◌, ℕ, Bool, false, length, List, [], ◌∷◌, Option, Some, None, IfSome, Result, Err, IfOk, IfErr, refl, sym, ◌∙◌}
 use Rattle.std.specs.List.{AllZip}
 use Rattle.kpn_model.specs.declared.kinds.Card.{Card}
 use Rattle.kpn_model.specs.declared.kinds.Signature.{Signature}
 use Rattle.kpn_model.specs.Network.{Network}
 use Rattle.kpn_sketch.specs.declared.fault.NetFault.{NetFault}
+use Rattle.kpn_sketch.specs.declared.fault.NetFault.TheVariants.{NotToml, Keys, Memory}
 use Rattle.kpn_sketch.specs.declared.sketch.ProcessSketch.{ProcessSketch}
 use Rattle.kpn_sketch.specs.declared.sketch.Delayed.{Delayed}
-use Rattle.kpn_sketch.specs.Description.{DescribesDelayed, delayed_of}
-use Rattle.kpn_front.specs.Loading.{LoadsChanged}
+use Rattle.kpn_sketch.specs.declared.sketch.Sketch.{Sketch}
+use Rattle.kpn_sketch.specs.Description.{DescribesDelayed, IsDelayedFault, delayed_of}
+use Rattle.kpn_net.specs.Faults.{first_fault}
+use Rattle.kpn_net.specs.Sketched.{net_of}
+use Rattle.kpn_front.specs.Loading.{IsLoadFault, LoadsChanged, longest}
+use Rattle.kpn_front.proofs.Loaded.{loads_from}
 use Rattle.hox_network.specs.Formulas.{IsWritten, stays, IsWrittenOut, WritesOut}
-use Rattle.hox_network.specs.Meant.{LoadsMeant, as_meant}
+use Rattle.hox_network.specs.Meant.{IsSketchOf, LoadsMeant, as_meant}
 
 -- what is loaded of a text is loaded of the source that had it, if no read failed
 pub loads_known :
@@ -38,10 +43,34 @@ each_stays (p ∷ ps) = (stays refl, each_stays ps)
 pub nothing_out : (text : List ℕ) → WritesOut text (λ d. d)
 nothing_out text = record { out = λ d _. record { formulas = record { each = each_stays d.sketch.processes; rest = refl }; delays = refl } }
 
+unread : (named : List ℕ → Option (ℕ × ℕ)) (signature : Card → Option Signature) (text : List ℕ) (e : NetFault) → length text ≤ longest → IsDelayedFault text e
+    → IsLoadFault delayed_of (as_meant named signature text) named signature false text e
+unread named signature text NotToml short is = ((refl, short), is)
+unread named signature text Keys short is = ((refl, short), is)
+unread named signature text Memory short is = refl
+unread named signature text _ short is = absurd is
+
 -- what is loaded with nothing written out
 pub loads_unread : (named : List ℕ → Option (ℕ × ℕ)) (signature : Card → Option Signature) (failed : Bool) (text : List ℕ) (r : Result Network NetFault)
     → LoadsChanged delayed_of (as_meant named signature text) named signature failed text r → LoadsMeant named signature failed text r
 loads_unread named signature failed text r h = record { write = λ d. d; out = nothing_out text; loads = h }
+
+-- the fault of a text of which nothing is read, if it is not too long
+pub unread_fault : (named : List ℕ → Option (ℕ × ℕ)) (signature : Card → Option Signature) (text : List ℕ) (e : NetFault) → length text ≤ longest → IsDelayedFault text e
+    → LoadsMeant named signature false text (Err e)
+unread_fault named signature text e short is = loads_unread named signature false text (Err e) (unread named signature text e short is)
+
+-- the network of the sketch that a text means, or the fault of that, is what is loaded of the text
+pub loads_sketch :
+    (named : List ℕ → Option (ℕ × ℕ)) (signature : Card → Option Signature) (text : List ℕ) (sketch : Sketch) (r : Result Network NetFault) → length text ≤ longest → IsSketchOf named signature text sketch
+    → IfOk r (λ n. (first_fault named signature sketch ≡ None) × (n ≡ net_of named sketch)) → IfErr r (λ e. e ≢ Memory → first_fault named signature sketch ≡ Some e) → LoadsMeant named signature false text r
+loads_sketch named signature text sketch r short of_text ok fault =
+    record {
+      write = λ _. of_text.written;
+      out = writes_this text of_text.described of_text.written of_text.describes of_text.out;
+      loads = loads_from named signature delayed_of (λ _. as_meant named signature text of_text.written) false text of_text.described r
+          (refl, short) of_text.describes (rw of_text.meant at ok) (rw of_text.meant at fault);
+    }
 
 -- whatever the source had left, if known
 pub known_unread : (named : List ℕ → Option (ℕ × ℕ)) (signature : Card → Option Signature) (failed : Bool) (known : Option (List ℕ)) (r : Result Network NetFault)

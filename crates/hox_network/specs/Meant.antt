@@ -2,6 +2,7 @@
 use Rattle.std.specs.Prelude.{◌≡◌, ℕ, Bool, List, Option, Result}
 use Rattle.kpn_model.specs.declared.kinds.Card.{Card}
 use Rattle.kpn_model.specs.declared.kinds.Signature.{Signature}
+use Rattle.kpn_sketch.specs.declared.sketch.Delay.{Delay}
 use Rattle.kpn_sketch.specs.declared.sketch.Delayed.{Delayed}
 use Rattle.kpn_sketch.specs.declared.sketch.Sketch.{Sketch}
 use Rattle.kpn_sketch.specs.declared.fault.NetFault.{NetFault}
@@ -16,11 +17,13 @@ use Rattle.hox_network.specs.Copies.{with_copies}
 use Rattle.hox_network.specs.Ports.{by_ports}
 
 module _ (named : List ℕ → Option (ℕ × ℕ)) (signature : Card → Option Signature) where
-  -- the default budget, then signed kinds and start tokens, then delays, then copies, then the sorts of ports
+  -- signed kinds and start tokens, then delays, then copies, then the sorts of ports
+  abbrev pub completed : Sketch → List Delay → Sketch
+  completed sketch delays = by_ports named signature (with_copies named signature (with_delays named signature delays (with_signs named signature sketch)))
+
+  -- the default budget, and then the rest
   abbrev pub as_meant : List ℕ → Delayed → Sketch
-  as_meant text described =
-      let signed = with_signs named signature (with_greatest_budget text described.sketch) in
-      by_ports named signature (with_copies named signature (with_delays named signature described.delays signed))
+  as_meant text described = completed (with_greatest_budget text described.sketch) described.delays
 
   -- what is loaded of a text: its formulas are written out as cards, then the rest
   pub record LoadsMeant (failed : Bool) (text : List ℕ) (loaded : Result Network NetFault) : Type 0 where

@@ -13,9 +13,6 @@ use Rattle.hox_network.specs.declared.presets.FileFault.TheVariants.{NoChannel}
 use Rattle.hox_network.specs.Meant.{LoadsMeant}
 use Rattle.hox_network.specs.Presets.{PresetAll, Stops, greatest_budget, with_budget}
 
-abbrev pub HasFewWorkers : Request → Type 0
-HasFewWorkers request = (1 ≤ request.workers) × (request.workers ≤ 16)
-
 -- a network may have the requested budget
 abbrev pub MayHaveBudget : Network → Option ℕ → Type 0
 MayHaveBudget net budget = IfSome budget (λ n. (1 ≤ n) × (n ≤ greatest_budget net.ceiling))

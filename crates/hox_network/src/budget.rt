@@ -20,21 +20,15 @@ pub(crate) fn with_greatest_budget(
     requires { IsUtf8 text.now }
     ensures { IfOk result (λ r. r ≡ with_greatest_budget text.now sketch) }
 {
-    if says_budget(alloc, text)? {
+    let says = match toml::table_from_slice(alloc, text) {
+        Ok(table) => has_budget(&table),
+        Err(error) => none_of(&error)?,
+    };
+    if says {
         return Ok(sketch);
     }
     let budget = i64::from(greatest_budget_in(sketch.version));
     Ok(Sketch { budget, ..sketch })
-}
-
-fn says_budget(alloc: Global, text: &[u8]) -> Result<bool, AllocError>
-    requires { IsUtf8 text.now }
-    ensures { IfOk result (λ says. says ≡ says_budget text.now) }
-{
-    match toml::table_from_slice(alloc, text) {
-        Ok(table) => Ok(has_budget(&table)),
-        Err(error) => none_of(&error),
-    }
 }
 
 /// A text that is no TOML states no budget. Errors: out of memory.

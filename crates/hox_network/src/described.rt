@@ -1,9 +1,8 @@
 //! Reads descriptions that may omit sorts and the budget, and may have negative arguments and start tokens.
-ghost use Rattle.std.specs.Prelude.{◌≡◌, ◌≤◌, ◌+◌, false, true, IfOk, IfSome, IsUtf8, length, map};
-ghost use Rattle.kpn_sketch.specs.declared.sketch.Delayed.{Delayed as DelayedV};
-ghost use Rattle.kpn_front.specs.Loading.{ConsumesAtMost, longest, without_text};
-ghost use Rattle.hox_network.specs.Formulas.{IsWrittenOut};
-ghost use Rattle.hox_network.specs.Meant.{IsSketchOf, LoadsMeant, as_meant};
+ghost use Rattle.std.specs.Prelude.{◌≡◌, IfOk, IfSome, MatchResult, map};
+ghost use Rattle.kpn_sketch.specs.Description.{IsDelayedFault};
+ghost use Rattle.kpn_front.specs.Loading.{LoadsFrom, without_text};
+ghost use Rattle.hox_network.specs.Meant.{IsSketchOf, LoadsMeant, completed};
 ghost use Rattle.hox_network.specs.Ports.{by_ports, channel_by_ports};
 
 use crate::budget::with_greatest_budget;
@@ -14,7 +13,7 @@ use crate::signs::with_signs;
 use crate::sorts::sort_by_ports;
 use kpn_front::{Refused, Source, read_text};
 use kpn_model::{Kinds, Listed};
-use kpn_net::{ChannelSketch, Check, Delayed, Net, NetFault, Sketch, read_delayed};
+use kpn_net::{ChannelSketch, Check, Delay, Delayed, Net, NetFault, Sketch, read_delayed};
 use std::alloc::{AllocError, Global};
 
 /// Reads a description to its end, and makes its network. A channel gets the sort of its two ports if they agree,
@@ -27,9 +26,7 @@ use std::alloc::{AllocError, Global};
 ///
 /// Errors: those of `kpn_front::load_or_refuse`, with the text.
 pub fn load_by_ports<K: Kinds, S: Source>(alloc: Global, source: &mut S) -> Result<Net<K>, Refused>
-    ensures loads { S.has_failed source.old ≡ false → IfSome (S.remaining source.old) (λ text. LoadsMeant K.named K.signature (S.has_failed source.new) text (without_text result)) }
-    ensures failed { S.has_failed source.old ≡ false → S.has_failed source.new ≡ true → without_text result ≡ Err NetFault.Input }
-    ensures taken { ConsumesAtMost (longest + 1) (S.remaining source.old) (S.remaining source.new) }
+    ensures { LoadsFrom (LoadsMeant K.named K.signature) S.is_steady S.has_failed S.remaining source.old source.new (without_text result) }
 {
     let text = match read_text(alloc, source) {
         Ok(text) => text,
@@ -38,47 +35,57 @@ pub fn load_by_ports<K: Kinds, S: Source>(alloc: Global, source: &mut S) -> Resu
             return Err(Refused { fault, text });
         }
     };
-    match net_of_text(alloc, text.as_slice()) {
+    let meant = match sketch_of_text::<K>(alloc, text.as_slice()) {
+        Ok(meant) => meant,
+        Err(fault) => return Err(Refused { fault, text }),
+    };
+    match Net::check(alloc, &meant) {
         Ok(net) => Ok(net),
         Err(fault) => Err(Refused { fault, text }),
     }
-}
-
-fn net_of_text<K: Kinds>(alloc: Global, text: &[u8]) -> Result<Net<K>, NetFault>
-    requires { length text.now ≤ longest }
-    ensures { LoadsMeant K.named K.signature false text.now result }
-{
-    let described = read_delayed(alloc, text)?;
-    let Ok(meant) = as_meant::<K>(alloc, text, described) else {
-        return Err(NetFault::Memory);
-    };
-    Net::check(alloc, &meant)
 }
 
 /// Returns the sketch of a text as `load_by_ports` completes it; `None` if the text describes none, or out of memory.
 pub fn sketch_by_ports<K: Kinds>(alloc: Global, text: &[u8]) -> Option<Sketch>
     ensures { IfSome result (IsSketchOf K.named K.signature text.now) }
 {
-    let Ok(described) = read_delayed(alloc, text) else {
-        return None;
-    };
-    match as_meant::<K>(alloc, text, described) {
+    match sketch_of_text::<K>(alloc, text) {
         Ok(meant) => Some(meant),
         Err(_) => None,
     }
 }
 
-/// Completes the sketch of a text: writes the formulas as cards, sets the default budget, the signed kinds and start
-/// tokens and the delays, adds the copies, and gives the channels the sorts of their ports. Errors: out of memory.
-fn as_meant<K: Kinds>(alloc: Global, text: &[u8], described: Delayed) -> Result<Sketch, AllocError>
-    requires { IsUtf8 text.now }
-    ensures { IfOk result (λ meant. (written : DelayedV) × IsWrittenOut described written × (meant ≡ as_meant K.named K.signature text.now written)) }
+/// Reads the sketch of a text, writes the formulas as cards, sets the default budget, and completes it.
+///
+/// Errors: those of `read_delayed`.
+fn sketch_of_text<K: Kinds>(alloc: Global, text: &[u8]) -> Result<Sketch, NetFault>
+    ensures { MatchResult result (IsSketchOf K.named K.signature text.now) (IsDelayedFault text.now) }
 {
+    let described = read_delayed(alloc, text)?;
     let Delayed { sketch, delays } = described;
-    let written = with_formulas(alloc, sketch)?;
-    let budgeted = with_greatest_budget(alloc, text, written)?;
-    let signed = with_signs::<K>(alloc, budgeted)?;
-    let delayed = with_delays::<K>(alloc, signed, delays.as_slice())?;
+    let Ok(written) = with_formulas(alloc, sketch) else {
+        return Err(NetFault::Memory);
+    };
+    let Ok(budgeted) = with_greatest_budget(alloc, text, written) else {
+        return Err(NetFault::Memory);
+    };
+    match completed::<K>(alloc, budgeted, delays.as_slice()) {
+        Ok(meant) => Ok(meant),
+        Err(_) => Err(NetFault::Memory),
+    }
+}
+
+/// Sets the signed kinds and start tokens and the delays, adds the copies, and gives the channels the sorts of their
+/// ports. Errors: out of memory.
+fn completed<K: Kinds>(
+    alloc: Global,
+    sketch: Sketch,
+    delays: &[Delay],
+) -> Result<Sketch, AllocError>
+    ensures { IfOk result (λ meant. meant ≡ completed K.named K.signature sketch delays.now) }
+{
+    let signed = with_signs::<K>(alloc, sketch)?;
+    let delayed = with_delays::<K>(alloc, signed, delays)?;
     let copied = with_copies::<K>(alloc, delayed)?;
     sorted_by_ports::<K>(alloc, copied)
 }

@@ -1,11 +1,10 @@
 //! Kinds that are formulas.
-ghost use Rattle.std.specs.Prelude.{◌≡◌, ◌++◌, [], codes, decimal, pos, IfOk, IfSome, map};
+ghost use Rattle.std.specs.Prelude.{◌≡◌, ◌++◌, codes, decimal, pos, IfOk, IfSome, map};
 ghost use Rattle.std.specs.List.{AllZip};
-ghost use Rattle.hox_formula.specs.Texts.{IsCardOfText};
 ghost use Rattle.hox_network.specs.Formulas.{AreWritten, IsWritten};
 
 use hox_formula::{Wrong, compile};
-use kpn_model::{Card, Listed, Text};
+use kpn_model::{Listed, Text};
 use kpn_net::{ProcessSketch, Sketch};
 use std::alloc::{AllocError, Global};
 use std::fmt::Write;
@@ -51,18 +50,11 @@ fn written(alloc: Global, process: ProcessSketch) -> Result<ProcessSketch, Alloc
     if !process.args.as_slice().is_empty() {
         return Ok(process);
     }
-    match compile(alloc, process.kind.as_str()) {
-        Ok(card) => with_card(alloc, process, card),
-        Err(fault) if fault.what == Wrong::Memory => Err(AllocError),
-        Err(_) => Ok(process),
-    }
-}
-
-fn with_card(alloc: Global, process: ProcessSketch, card: Card) -> Result<ProcessSketch, AllocError>
-    requires formula { IsCardOfText process.kind card }
-    requires arguments { process.args ≡ [] }
-    ensures { IfOk result (IsWritten process) }
-{
+    let card = match compile(alloc, process.kind.as_str()) {
+        Ok(card) => card,
+        Err(fault) if fault.what == Wrong::Memory => return Err(AllocError),
+        Err(_) => return Ok(process),
+    };
     // No argument of a formula's card needs more than 60 bits.
     let Some(args) = signed_args(card.args) else {
         return Ok(process);

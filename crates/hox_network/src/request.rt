@@ -26,8 +26,9 @@ pub struct StreamAs<W> {
     pub written: W,
 }
 
-/// How to run a described network: with 1 to 16 workers; with this budget, in entries, instead of the description's;
-/// with start tokens from these files; with the streams of `show` in the report, and those of `outputs` as files.
+/// How to run a described network: with so many workers, 0 as 1 and more than 16 as 16; with this budget, in entries,
+/// instead of the description's; with start tokens from these files; with the streams of `show` in the report, and
+/// those of `outputs` as files.
 #[derive(Drop)]
 pub struct Request {
     pub workers: usize,

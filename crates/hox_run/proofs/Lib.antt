@@ -5,3 +5,4 @@ pub mod Progressing
 pub mod Named
 pub mod Served
 pub mod Fitted
+pub mod Shared

@@ -16,6 +16,8 @@ use Rattle.kpn_model.specs.Endings.{IsFinal, MayEnd}
 use Rattle.kpn_model.specs.texts.Reports.{has_report}
 use Rattle.kpn_laws.specs.RoomOfRun.{TakesLeastRoom}
 use Rattle.kpn_laws.specs.StreamsOfRun.{ApproachLeastSolution}
+use Rattle.kpn_run.specs.declared.fault.RunFault.{RunFault}
+use Rattle.kpn_run.specs.declared.fault.RunFault.TheVariants.{Workers, Open, Memory as NoMemory, Lost}
 use Rattle.kpn_run.specs.Runs.{IsComparable}
 use Rattle.kpn_dry.specs.Dry.{IsWhole}
 use Rattle.kpn_report.specs.Text.{report_text}
@@ -32,12 +34,19 @@ use Rattle.hox_run.specs.Cuts.{IsWithin, Leaves, before_verdict, cut_text}
 use Rattle.hox_run.specs.Judging.{AreDry, IsJudged, active_part}
 use Rattle.hox_run.specs.Notes.{AreNotes}
 
--- several workers may run a network with bodies of these cards: they are those of its processes, and each wanted stream
--- is that of one of its channels
+-- a network, bodies of these cards, and a wanted number of workers, as several may run it: the cards are those of its
+-- processes, and each wanted stream is that of one of its channels
 pub record MayShareRun (net : Network) (held : List Card) (n : ℕ) (outputs : List (ChannelAs Layout)) : Type 0 where
   pub cards : held ≡ map (λ p. p.card) net.processes
-  pub workers : (1 < n) × (n ≤ 16)
+  pub workers : 1 < n
   pub within : All (IsWithin net) outputs
+
+-- the fault of a run by a number of workers that may run a network, with bodies that fit
+abbrev pub IsOfRun : {B K : Type 0} → RunFault B K → Type 0
+IsOfRun (Workers net bodies) = ⊥
+IsOfRun (Open net bodies fault) = ⊥
+IsOfRun (NoMemory net bodies) = Unit {0}
+IsOfRun (Lost answered body) = Unit {0}
 
 abbrev pub status_of_verdict : Verdict → ExitStatus
 status_of_verdict Finished = Success

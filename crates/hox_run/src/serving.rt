@@ -1,10 +1,9 @@
 //! Runs a described network as requested.
-ghost use Rattle.std.specs.Prelude.{◌≡◌, ◌<◌, ◌+◌, ◌⊎◌, ℕ, IfOk, IfErr, IfNone, IfSome, None};
+ghost use Rattle.std.specs.Prelude.{◌≡◌, ◌⊎◌, ℕ, IfOk, IfErr, IfNone, IfSome, None};
 ghost use Rattle.std.specs.List.{All};
 ghost use Rattle.kpn_model.specs.Network.{number_of_channel, Network as NetworkV};
 ghost use Rattle.kpn_model.specs.Families.{family};
-ghost use Rattle.kpn_front.specs.Loading.{ConsumesAtMost, longest};
-ghost use Rattle.hox_network.specs.Preparing.{HasFewWorkers, LacksChannel, Prepares, Serves, channel_names};
+ghost use Rattle.hox_network.specs.Preparing.{LacksChannel, Prepares, ServesFrom};
 ghost use Rattle.hox_run.specs.Cuts.{IsWithin};
 ghost use Rattle.hox_run.specs.Serving.{AreNamed, GivesRun, IsNamed, names_of};
 
@@ -35,9 +34,7 @@ pub fn serve<K: Computes, I: Source, R: Wait + Clock + Threads + Sync, P: Progre
     source: &mut I,
     progress: &P,
 ) -> Result<Told, Fault>
-    requires { HasFewWorkers request.now }
-    ensures served { Serves K.named K.signature (GivesRun (family K.Kinds) request.now) (I.remaining source.old) (I.has_failed source.old) (I.has_failed source.new) result }
-    ensures taken { ConsumesAtMost (longest + 1) (I.remaining source.old) (I.remaining source.new) }
+    ensures { ServesFrom K.named K.signature (GivesRun (family K.Kinds) request.now) (I.remaining source.old) (I.remaining source.new) (I.has_failed source.old) (I.has_failed source.new) result }
 {
     let prepared: Result<Net<K>, Fault> = prepare(alloc, request, source);
     match prepared {
@@ -53,11 +50,18 @@ fn serve_prepared<K: Computes, R: Wait + Clock + Threads + Sync, P: ProgressRece
     net: Net<K>,
     progress: &P,
 ) -> Result<Told, Fault>
-    requires { HasFewWorkers request.now }
     ensures { (loaded : NetworkV) → Prepares request.now loaded net → GivesRun (family K.Kinds) request.now loaded result }
 {
-    let show = shown_in(alloc, &net, request.show.as_slice())?;
-    let outputs = outputs_in(alloc, &net, request.outputs.as_slice())?;
+    let show = match channels_in(alloc, &net, request.show.as_slice()) {
+        Ok(show) => show,
+        Err(Missing::Channel(k)) => return Err(Fault::NoShown(k, channel_names(alloc, &net)?)),
+        Err(Missing::Memory) => return Err(Fault::Memory),
+    };
+    let outputs = match channels_in(alloc, &net, request.outputs.as_slice()) {
+        Ok(outputs) => outputs,
+        Err(Missing::Channel(k)) => return Err(Fault::NoOutput(k, channel_names(alloc, &net)?)),
+        Err(Missing::Memory) => return Err(Fault::Memory),
+    };
     let streams = WantedStreams {
         show: show.as_slice(),
         outputs: outputs.as_slice(),
@@ -71,37 +75,6 @@ fn serve_prepared<K: Computes, R: Wait + Clock + Threads + Sync, P: ProgressRece
         Ok(told) => Ok(told),
         Err(NoResult::Memory) => Err(Fault::Memory),
         Err(NoResult::Lost) => Err(Fault::Lost),
-    }
-}
-
-fn shown_in<K: Kinds>(
-    alloc: Global,
-    net: &Net<K>,
-    texts: &[StreamAs<Decimals>],
-) -> Result<Vec<ChannelAs<Decimals>>, Fault>
-    ensures named { IfOk result (λ v. AreNamed net.now texts.now v.items) }
-    ensures fault { IfErr result (λ e. (e ≡ Fault.Memory) ⊎ ((k : ℕ) × (e ≡ Fault.NoShown k (channel_names net.now)) × LacksChannel net.now (names_of texts.now) k)) }
-{
-    match channels_in(alloc, net, texts) {
-        Ok(shown) => Ok(shown),
-        Err(Missing::Channel(k)) => Err(Fault::NoShown(k, channel_names(alloc, net)?)),
-        Err(Missing::Memory) => Err(Fault::Memory),
-    }
-}
-
-fn outputs_in<K: Kinds>(
-    alloc: Global,
-    net: &Net<K>,
-    texts: &[StreamAs<Layout>],
-) -> Result<Vec<ChannelAs<Layout>>, Fault>
-    ensures named { IfOk result (λ v. AreNamed net.now texts.now v.items) }
-    ensures within { IfOk result (λ v. All (IsWithin net.now) v.items) }
-    ensures fault { IfErr result (λ e. (e ≡ Fault.Memory) ⊎ ((k : ℕ) × (e ≡ Fault.NoOutput k (channel_names net.now)) × LacksChannel net.now (names_of texts.now) k)) }
-{
-    match channels_in(alloc, net, texts) {
-        Ok(outputs) => Ok(outputs),
-        Err(Missing::Channel(k)) => Err(Fault::NoOutput(k, channel_names(alloc, net)?)),
-        Err(Missing::Memory) => Err(Fault::Memory),
     }
 }
 

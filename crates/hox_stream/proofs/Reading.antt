@@ -9,7 +9,7 @@ use Rattle.kpn_tokens.specs.declared.layouts.Cut.{Cut}
 use Rattle.kpn_tokens.specs.declared.layouts.Layout.{Layout}
 use Rattle.kpn_tokens.specs.Records.{IsCut, IsEnded, IsWhole}
 use Rattle.hox_stream.specs.Cutting.{has_record}
-use Rattle.hox_stream.specs.Ports.{IsNotRead, IsReadOnce, wants_more}
+use Rattle.hox_stream.specs.Ports.{IsNotRead, IsRead, IsReadOnce, wants_more}
 use Rattle.hox_stream.specs.Streams.{inlet_at, is_waited_for}
 use Rattle.hox_stream.specs.Turns.{AreReadIfWanted, AreReadUnheld, ComesBefore, IsTurnOf}
 use Rattle.hox_stream.specs.Views.{InletView, OutsView, no_inlet}
@@ -62,6 +62,11 @@ both false e f = cc
 -- it can't both want more and not
 pub never_wants : {A : Type 0} (p : InletView) → wants_more p ≡ false → wants_more p ≡ true → A
 never_wants p e f = both (wants_more p) e f
+
+-- a source that held no more than a record may have was read, if it was not left alone
+pub read_on : (p q : InletView) → length p.kept ≤ 4096 → IsRead p q ⊎ (4096 < length q.kept) → IsRead p q
+read_on p q few (inl read) = read
+read_on p q few (inr more) = inl (omega (arith, few, more))
 
 pub not_read_same : (p : InletView) → IsNotRead p p
 not_read_same p = record { kept = omega arith; remaining = refl; is_over = refl }

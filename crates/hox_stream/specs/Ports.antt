@@ -1,5 +1,5 @@
 -- Tokens that come in from a source, and go out to a sink.
-use Rattle.std.specs.Prelude.{◌≡◌, ◌<◌, ◌≤◌, ◌+◌, ◌-◌, ◌^◌, ◌++◌, ◌&&◌, ◌||◌, ◌⊎◌, ℕ, Bool, true, false, not, List, [], length, map, if◌then◌else◌, Option, Result, Ok, IfErr}
+use Rattle.std.specs.Prelude.{◌≡◌, ◌<◌, ◌≤◌, ◌+◌, ◌-◌, ◌^◌, ◌++◌, ◌&&◌, ◌||◌, ◌⊎◌, ℕ, Bool, true, false, not, List, [], length, map, if◌then◌else◌, Result, Ok, IfErr}
 use Rattle.std.specs.List.{flat_map, list_all, take_while}
 use Rattle.std.specs.Io.Iter.{u64_saturate}
 use Rattle.std.specs.Io.KnownBytes.{Appends, Consumes, IsAtEnd}
@@ -12,7 +12,7 @@ use Rattle.kpn_flow.specs.Flows.{FlowView, IsSameFlow, is_among}
 use Rattle.kpn_flow.specs.Preloaded.{IsAtEnds}
 use Rattle.hox_stream.specs.declared.outlet.WriteFault.{WriteFault}
 use Rattle.hox_stream.specs.declared.outlet.WriteFault.TheVariants.{Failed, Misfit, Memory}
-use Rattle.hox_stream.specs.declared.cutting.Next.TheVariants.{Record}
+use Rattle.hox_stream.specs.declared.cutting.Next.{Next}
 use Rattle.hox_stream.specs.Cutting.{IsNext, Passes, has_record}
 use Rattle.hox_stream.specs.Views.{InletView, OutletView, unread}
 
@@ -84,9 +84,9 @@ pub record IsNotRead (p q : InletView) : Type 0 where
   pub remaining : q.remaining ≡ p.remaining
   pub is_over : q.is_over ≡ p.is_over
 
--- the next record of a source has this many bytes, and this token, if any
-pub record IsNextIn (p : InletView) (said : Option Token) (used : ℕ) : Type 0 where
-  pub next : IsNext p.layout p.sort p.kept p.is_over (Record said used)
+-- this comes next of a source; at its end there is no more
+pub record IsNextIn (p : InletView) (found : Next) : Type 0 where
+  pub next : IsNext p.layout p.sort p.kept p.is_over found
   pub at_end : p.is_over ≡ true → IsAtEnd p.remaining
 
 -- the source was read once, and then only records were taken

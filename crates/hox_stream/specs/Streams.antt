@@ -76,6 +76,13 @@ pub record FaultsStay (p q : OutletView) : Type 0 where
   pub failed : p.has_failed ≡ true → q.has_failed ≡ true
   pub misfit : q.is_misfit ≡ p.is_misfit
 
+-- what waits was written, or a write failed
+pub record FlushesSink {X E : Type 0} (p q : OutletView) (result : Result X E) : Type 0 where
+  pub writes : Writes p q []
+  pub written : q.has_failed ≡ false → q.waiting ≡ []
+  pub still : FaultsStay p q
+  pub failed : IfErr result (λ _. q.has_failed ≡ true)
+
 pub record TableStays (p q : TableView) : Type 0 where
   pub failed : p.has_failed ≡ true → q.has_failed ≡ true
   pub lanes : q.lanes ≡ p.lanes
@@ -115,6 +122,19 @@ IsFinish kinds s ins outs (Apart k) = IsOutAt outs k (λ p. ⊥) (λ p. IsTableF
 IsFinish kinds s ins outs Idle = NoneIsWaitedFor s ins
 IsFinish kinds s ins outs Memory = Unit {0}
 IsFinish kinds s ins outs Cut = Unit {0}
+
+-- all that waits in each table was written, with gaps, or the stream ends since a write failed. The tables follow
+-- `first` sinks
+pub record TablesEnd {X : Type 0} (before after : List TableView) (first : ℕ) (result : Result X StreamFinish) : Type 0 where
+  pub ends : AllEnd before after
+  pub finish : IfErr result (λ f. (kinds : Family) (s : FlowView) (ins : List InletView) (sinks : List OutletView)
+      → length sinks ≡ first → IsFinish kinds s ins (outs sinks after) f)
+
+-- the same of all sinks, of which those of one channel stay as they are
+pub record OutsEnd {X : Type 0} (before after : OutsView) (result : Result X StreamFinish) : Type 0 where
+  pub sinks : after.sinks ≡ before.sinks
+  pub ends : AllEnd before.tables after.tables
+  pub finish : IfErr result (λ f. (kinds : Family) (s : FlowView) (ins : List InletView) → IsFinish kinds s ins after f)
 
 module _ (kinds : Family) (s t : FlowView) where
   -- tokens were moved from channels to sinks of one channel, if there were any, or the stream ends; nothing else happened

@@ -103,6 +103,11 @@ pub record EndsTable (p q : TableView) : Type 0 where
   pub rows : RowsGo p q (longest (columns_of p.lanes))
   pub emptied : q.has_failed ≡ false → q.waiting ≡ []
 
+-- so it was, or a write failed
+pub record EndsRows {X E : Type 0} (p q : TableView) (result : Result X E) : Type 0 where
+  pub ends : EndsTable p q
+  pub failed : IfErr result (λ _. q.has_failed ≡ true)
+
 abbrev pub only_at : ℕ → List Token → ℕ → List Token
 only_at place tokens i = if i == place then tokens else []
 

@@ -3,14 +3,12 @@ ghost use Rattle.std.specs.Prelude.{◌≡◌, ◌<◌, ◌≤◌, ◌+◌, ◌+
 ghost use Rattle.std.specs.List.{list_any};
 ghost use Rattle.std.specs.Io.Iter.{u64_saturate};
 ghost use Rattle.std.specs.Io.KnownBytes.{IsAtEnd};
-ghost use Rattle.kpn_tokens.specs.Records.{listed};
-ghost use Rattle.hox_stream.specs.Cutting.{IsNext};
-ghost use Rattle.hox_stream.specs.Ports.{IsRead, ReadsOn, wants_more};
+ghost use Rattle.hox_stream.specs.Ports.{IsNextIn, IsRead, ReadsOn, wants_more};
 
 use crate::cutting::{LONGEST_RECORD, Next, next_of};
 use crate::gathering::Kept;
 use kpn_front::Source;
-use kpn_tokens::{Layout, Sort, Token, record_in};
+use kpn_tokens::{Layout, Sort, record_in};
 use std::alloc::{AllocError, Global};
 use std::marker::Model;
 
@@ -130,8 +128,7 @@ impl<S: Source> Inlet<S> {
     }
 
     pub(crate) fn next(&self, alloc: Global) -> Next
-        ensures next { IsNext self.now.layout self.now.sort self.now.kept self.now.is_over result }
-        ensures at_end { self.now.is_over ≡ true → IsAtEnd self.now.remaining }
+        ensures { IsNextIn self.now result }
     {
         let bytes = &self.held[self.next..];
         next_of(alloc, self.layout, self.sort, bytes, self.is_over)
@@ -150,23 +147,14 @@ impl<S: Source> Inlet<S> {
         }
     }
 
-    /// Takes the next `count` records, of `used` bytes in all, with a token each.
-    pub(crate) fn pass_all(&mut self, used: usize, count: usize)
+    /// Takes the next `records` records, of `used` bytes in all, with so many tokens.
+    pub(crate) fn pass(&mut self, used: usize, records: usize, tokens: usize)
         requires { used ≤ length self.old.kept }
-        ensures { self.new ≡ record self.old { kept = drop used self.old.kept; records = u64_saturate (self.old.records + count); tokens = u64_saturate (self.old.tokens + count) } }
+        ensures { self.new ≡ record self.old { kept = drop used self.old.kept; records = u64_saturate (self.old.records + records); tokens = u64_saturate (self.old.tokens + tokens) } }
     {
         self.next += used;
-        self.records = self.records.saturating_add(count as u64);
-        self.tokens = self.tokens.saturating_add(count as u64);
-    }
-
-    pub(crate) fn pass(&mut self, used: usize, said: Option<Token>)
-        requires { used ≤ length self.old.kept }
-        ensures { self.new ≡ record self.old { kept = drop used self.old.kept; records = u64_saturate (self.old.records + 1); tokens = u64_saturate (self.old.tokens + length (listed said)) } }
-    {
-        self.next += used;
-        self.records = self.records.saturating_add(1);
-        self.tokens = self.tokens.saturating_add(count_of(said));
+        self.records = self.records.saturating_add(records as u64);
+        self.tokens = self.tokens.saturating_add(tokens as u64);
     }
 
     /// Returns whether the next record needs another read.
@@ -198,15 +186,6 @@ impl<S: Source> Inlet<S> {
         self.next = 0;
         self.is_over = n == 0;
         Ok(())
-    }
-}
-
-fn count_of(said: Option<Token>) -> u64
-    ensures { result ≡ length (listed said) }
-{
-    match said {
-        Some(_) => 1,
-        None => 0,
     }
 }
 

@@ -4,7 +4,7 @@ ghost use Rattle.std.specs.List.{flat_map};
 ghost use Rattle.std.specs.Io.KnownBytes.{Appends, append_known};
 ghost use Rattle.kpn_tokens.specs.Records.{record_text};
 ghost use Rattle.hox_stream.specs.Ports.{IsWriteFault, Writes, are_written, clipped_of, written_of};
-ghost use Rattle.hox_stream.specs.Streams.{FaultsStay};
+ghost use Rattle.hox_stream.specs.Streams.{FlushesSink};
 
 use kpn_front::Sink;
 use kpn_tokens::{AppendFault, Layout, Token, append_tokens};
@@ -148,7 +148,8 @@ impl<S: Sink> Outlet<S> {
         }
         let Ok(appended) = append_to(&mut self.waiting, self.layout, tokens) else {
             self.waiting.clear();
-            return self.fail(WriteFault::Memory);
+            self.fail();
+            return Err(WriteFault::Memory);
         };
         self.tokens = self.tokens.saturating_add(appended.written as u64);
         self.clipped = self.clipped.saturating_add(appended.clipped as u64);
@@ -157,7 +158,8 @@ impl<S: Sink> Outlet<S> {
             return self.end_of_write();
         }
         if write_out(&mut self.sink, &mut self.waiting).is_err() {
-            return self.fail(WriteFault::Failed);
+            self.fail();
+            return Err(WriteFault::Failed);
         }
         self.flushed = self.tokens;
         self.end_of_write()
@@ -175,28 +177,24 @@ impl<S: Sink> Outlet<S> {
 
     /// Writes what waits, unless a write has failed before. If it fails, some bytes may have been written.
     pub(crate) fn flush(&mut self) -> Result<(), WriteFault>
-        ensures writes { Writes self.old self.new [] }
-        ensures written { self.new.has_failed ≡ false → self.new.waiting ≡ [] }
-        ensures still { FaultsStay self.old self.new }
-        ensures failed { IfErr result (λ _. self.new.has_failed ≡ true) }
+        ensures { FlushesSink self.old self.new result }
     {
         if self.has_failed || self.waiting.is_empty() {
             return Ok(());
         }
         if write_out(&mut self.sink, &mut self.waiting).is_err() {
-            return self.fail(WriteFault::Failed);
+            self.fail();
+            return Err(WriteFault::Failed);
         }
         self.flushed = self.tokens;
         Ok(())
     }
 
-    fn fail(&mut self, fault: WriteFault) -> Result<(), WriteFault>
-        ensures failed { self.new ≡ record self.old { has_failed = true; tokens = self.new.tokens } }
-        ensures fault { result ≡ Err fault }
+    fn fail(&mut self)
+        ensures { self.new ≡ record self.old { has_failed = true; tokens = self.new.tokens } }
     {
         self.has_failed = true;
         self.tokens = self.flushed;
-        Err(fault)
     }
 }
 

@@ -9,7 +9,7 @@ ghost use Rattle.kpn_flow.specs.Preloaded.{IsAtEnds};
 ghost use Rattle.hox_stream.specs.declared.cutting.Refusal.{Refusal as RefusalV};
 ghost use Rattle.hox_stream.specs.Cutting.{IsRefused};
 ghost use Rattle.hox_stream.specs.Gathering.{end_of};
-ghost use Rattle.hox_stream.specs.Ports.{IsNextIn, IsNotRead, IsRead, IsReadOnce, Pours, PoursKept, ReadsOn, wants_more};
+ghost use Rattle.hox_stream.specs.Ports.{IsNextIn, IsNotRead, IsReadOnce, Pours, PoursKept, wants_more};
 ghost use Rattle.hox_stream.specs.Streams.{NoneIsWaitedFor, inlet_at, is_waited_for};
 ghost use Rattle.hox_stream.specs.Turns.{IsTurnOf, PoursOne, TakesTurn};
 
@@ -46,65 +46,44 @@ fn take_said<B: Body, S: Source>(
     said: Option<Token>,
     used: usize,
 ) -> bool
-    requires { IsNextIn inlet.old said used }
+    requires { IsNextIn inlet.old (Next.Record said used) }
     ensures { PoursKept (family B.Kinds.Kinds) flow.old flow.new inlet.old inlet.new }
 {
     if !feed_said(flow, inlet.channel(), said) {
         return false;
     }
-    inlet.pass(used, said);
+    inlet.pass(used, 1, count_of(said));
     true
 }
 
-fn take_records<B: Body, S: Source>(
-    alloc: Global,
-    flow: &mut Flow<B>,
-    inlet: &mut Inlet<S>,
-    said: Option<Token>,
-    used: usize,
-)
-    requires { IsNextIn inlet.old said used }
-    ensures { PoursKept (family B.Kinds.Kinds) flow.old flow.new inlet.old inlet.new }
+fn count_of(said: Option<Token>) -> usize
+    ensures { result ≡ length (listed said) }
 {
-    if !take_said(flow, inlet, said, used) {
-        return;
+    match said {
+        Some(_) => 1,
+        None => 0,
     }
-    take_more(alloc, flow, inlet);
 }
 
-/// Takes records and feeds their tokens, while there are room and records.
+/// Takes records and feeds their tokens, while there are room and records: many at once if they have a token each.
 fn take_more<B: Body, S: Source>(alloc: Global, flow: &mut Flow<B>, inlet: &mut Inlet<S>)
     ensures { PoursKept (family B.Kinds.Kinds) flow.old flow.new inlet.old inlet.new }
 {
     let mut room = capacity_of(flow.net(), inlet.channel());
     'records: for _ in 0..u64::MAX {
-        let taken = take_some(alloc, flow, inlet, room);
-        if taken == 0 {
+        if !flow.has_room(inlet.channel()) {
             return;
         }
-        room = room.saturating_sub(taken).max(1);
-    }
-}
-
-/// Takes the next records: at most `most` if they have a token each, else one. Returns how many it took.
-fn take_some<B: Body, S: Source>(
-    alloc: Global,
-    flow: &mut Flow<B>,
-    inlet: &mut Inlet<S>,
-    most: usize,
-) -> usize
-    ensures { PoursKept (family B.Kinds.Kinds) flow.old flow.new inlet.old inlet.new }
-{
-    if !flow.has_room(inlet.channel()) {
-        return 0;
-    }
-    let taken = take_batch(flow, inlet, most);
-    if taken > 0 {
-        return taken;
-    }
-    match inlet.next(alloc) {
-        Next::Record { said, used } => usize::from(take_said(flow, inlet, said, used)),
-        _ => 0,
+        let taken = take_batch(flow, inlet, room);
+        if taken == 0 {
+            let Next::Record { said, used } = inlet.next(alloc) else {
+                return;
+            };
+            if !take_said(flow, inlet, said, used) {
+                return;
+            }
+        }
+        room = room.saturating_sub(taken.max(1)).max(1);
     }
 }
 
@@ -136,7 +115,7 @@ fn take_batch<B: Body, S: Source>(flow: &mut Flow<B>, inlet: &mut Inlet<S>, most
     let mut ends = [0; BATCH];
     let count = gather(&inlet.kept(), most.min(BATCH), &mut tokens, &mut ends);
     let fed = flow.feed_all(channel, &tokens[..count]);
-    inlet.pass_all(end_of(&ends, fed), fed);
+    inlet.pass(end_of(&ends, fed), fed, fed);
     fed
 }
 
@@ -178,7 +157,10 @@ fn pour<B: Body, S: Source>(
             if sort_of(flow.net(), channel) != inlet.sort() {
                 return Err(PourFault::OtherSort);
             }
-            take_records(alloc, flow, inlet, said, used);
+            if !take_said(flow, inlet, said, used) {
+                return Ok(());
+            }
+            take_more(alloc, flow, inlet);
             Ok(())
         }
         Next::Refused(refusal) => Err(PourFault::Refused(refusal)),
@@ -186,51 +168,17 @@ fn pour<B: Body, S: Source>(
         Next::Wanting => {
             if inlet.is_over() {
                 flow.end_input(channel);
-                Ok(())
-            } else {
-                read_on(alloc, inlet)?;
-                take_more(alloc, flow, inlet);
-                Ok(())
+                return Ok(());
+            }
+            match inlet.refill(alloc) {
+                Ok(()) => {
+                    take_more(alloc, flow, inlet);
+                    Ok(())
+                }
+                Err(ReadFault::Failed) => Err(PourFault::Failed),
+                Err(ReadFault::Memory) => Err(PourFault::Memory),
             }
         }
-    }
-}
-
-fn read_on<S: Source>(alloc: Global, inlet: &mut Inlet<S>) -> Result<(), PourFault>
-    requires unended { inlet.old.is_over ≡ false }
-    requires few { length inlet.old.kept ≤ 4096 }
-    ensures reads { ReadsOn inlet.old inlet.new }
-    ensures read { IfOk result (λ _. IsRead inlet.old inlet.new) }
-    ensures unrefused { (refusal : RefusalV) → result ≢ Err (PourFault.Refused refusal) }
-    ensures failed { result ≡ Err PourFault.Failed → inlet.new.has_failed ≡ true }
-    ensures same_sort { result ≢ Err PourFault.OtherSort }
-{
-    match inlet.refill(alloc) {
-        Ok(()) => Ok(()),
-        Err(ReadFault::Failed) => Err(PourFault::Failed),
-        Err(ReadFault::Memory) => Err(PourFault::Memory),
-    }
-}
-
-/// Pours ([`pour`]) source `k`. Returns why the stream ends, if it does.
-fn pour_at<B: Body, S: Source>(
-    alloc: Global,
-    flow: &mut Flow<B>,
-    inlets: &mut [Inlet<S>],
-    k: usize,
-) -> Option<StreamFinish>
-    requires within { k < length inlets.old }
-    requires input { is_among flow.old.unended (inlet_at inlets.old k).channel ≡ true }
-    ensures poured { PoursOne (family B.Kinds.Kinds) flow.old flow.new inlets.old inlets.new result }
-    ensures read { IfNone result (wants_more (inlet_at inlets.old k) ≡ true → IsReadOnce (inlet_at inlets.old k) (inlet_at inlets.new k)) }
-    ensures others { (j : ℕ) → (j ≡ k → ⊥) → inlet_at inlets.new j ≡ inlet_at inlets.old j }
-{
-    match pour(alloc, flow, &mut inlets[k]) {
-        Ok(()) => None,
-        Err(PourFault::Refused(refusal)) => Some(StreamFinish::Refused(k, refusal)),
-        Err(PourFault::Failed) => Some(StreamFinish::Unread(k)),
-        Err(PourFault::OtherSort) => Some(StreamFinish::OtherSort(k)),
-        Err(PourFault::Memory) => Some(StreamFinish::Memory),
     }
 }
 
@@ -289,5 +237,11 @@ pub(crate) fn pour_next<B: Body, S: Source>(
         return Some(StreamFinish::Idle);
     };
     *turn = k + 1;
-    pour_at(alloc, flow, inlets, k)
+    match pour(alloc, flow, &mut inlets[k]) {
+        Ok(()) => None,
+        Err(PourFault::Refused(refusal)) => Some(StreamFinish::Refused(k, refusal)),
+        Err(PourFault::Failed) => Some(StreamFinish::Unread(k)),
+        Err(PourFault::OtherSort) => Some(StreamFinish::OtherSort(k)),
+        Err(PourFault::Memory) => Some(StreamFinish::Memory),
+    }
 }

@@ -1,8 +1,8 @@
 //! Opens a stream.
-ghost use Rattle.std.specs.Prelude.{◌≡◌, ◌<◌, ◌⊎◌, false, [], Some, IfOk, IfErr, length, map, get_or};
+ghost use Rattle.std.specs.Prelude.{◌≡◌, ◌<◌, ◌⊎◌, false, IfOk, IfErr, length, map};
 ghost use Rattle.std.specs.List.{list_any};
 ghost use Rattle.kpn_compute.specs.Both.{both_family, both_named, both_ports};
-ghost use Rattle.kpn_model.specs.Network.{channel_of, number_of_channel};
+ghost use Rattle.kpn_model.specs.Network.{channel_of};
 ghost use Rattle.kpn_model.specs.Families.{family};
 ghost use Rattle.kpn_flow.specs.Ends.{is_no_channel};
 ghost use Rattle.kpn_net.specs.Sketched.{net_of};
@@ -182,6 +182,7 @@ fn fault_of(fault: FlowFault) -> StreamFault
     }
 }
 
+/// Finds the channels of these names, in order.
 fn channels_at<B: Body>(
     alloc: Global,
     net: &Net<B::Kinds>,
@@ -196,39 +197,21 @@ fn channels_at<B: Body>(
 {
     let mut channels = Vec::new(alloc);
     for k in 0..ends.names.len() {
-        let channel = channel_at(alloc, net, bodies, ends, k)?;
+        let Some(channel) = net.find_channel(ends.names[k].as_str()) else {
+            return Err(NameFault::NoChannel(k));
+        };
+        let process = outer_process(net, ends.way, channel);
+        if !stops_at_once(bodies, process) {
+            let Ok(name) = name_of(alloc, net, process) else {
+                return Err(NameFault::Memory);
+            };
+            return Err(NameFault::Busy(k, name));
+        }
         if channels.push(channel).is_err() {
             return Err(NameFault::Memory);
         }
     }
     Ok(channels)
-}
-
-fn channel_at<B: Body>(
-    alloc: Global,
-    net: &Net<B::Kinds>,
-    bodies: &[B],
-    ends: &NamedEnds<'_>,
-    k: usize,
-) -> Result<usize, NameFault>
-    requires cards { map B.card bodies.now ≡ cards_in net.now }
-    requires within { k < length ends.now.names.now }
-    ensures named { IfOk result (λ c. number_of_channel net.now (get_or ends.now.names.now k []) ≡ Some c) }
-    ensures within { IfOk result (λ c. is_no_channel net.now c ≡ false) }
-    ensures idle { IfOk result (λ c. is_busy (family B.Kinds.Kinds) net.now ends.now.way c ≡ false) }
-    ensures fault { IfErr result (IsNameFault (family B.Kinds.Kinds) net.now ends.now.way ends.now.names.now) }
-{
-    let Some(channel) = net.find_channel(ends.names[k].as_str()) else {
-        return Err(NameFault::NoChannel(k));
-    };
-    let process = outer_process(net, ends.way, channel);
-    if stops_at_once(bodies, process) {
-        return Ok(channel);
-    }
-    match name_of(alloc, net, process) {
-        Ok(name) => Err(NameFault::Busy(k, name)),
-        Err(_) => Err(NameFault::Memory),
-    }
 }
 
 /// Returns the writer of a channel to be fed, or the reader of one to be drained.

@@ -3,7 +3,7 @@ ghost use Rattle.std.specs.Prelude.{IfNone};
 ghost use Rattle.kpn_model.specs.Families.{family};
 ghost use Rattle.kpn_flow.specs.Pieces.{IsOneRunInPieces};
 ghost use Rattle.hox_stream.specs.Streams.{AreWritten, StreamsOut, StreamsTo};
-ghost use Rattle.hox_stream.specs.Turns.{GoesOn, PassesTurn, TakesTurn};
+ghost use Rattle.hox_stream.specs.Turns.{GoesOn, PassesTurn};
 
 use crate::finish::StreamFinish;
 use crate::inlet::{Inlet, wants_more};
@@ -75,7 +75,8 @@ fn turn_on<B: Body, I: Source, O: Sink, L: Onlooker>(
 }
 
 /// Advances the flow as far as it can, and writes its output. If there is none, reads a source that a process
-/// waits for, from source `next` on. Returns why the stream ends, if it does.
+/// waits for, from source `next` on, after it has written out all output if a source may need a read. Returns
+/// why the stream ends, if it does.
 fn turn<B: Body, I: Source, O: Sink>(
     alloc: Global,
     flow: &mut Flow<B>,
@@ -93,24 +94,10 @@ fn turn<B: Body, I: Source, O: Sink>(
         Ok(false) => {}
     }
     match pause {
-        Pause::Cut | Pause::Blocked => None,
-        Pause::Over(end) => Some(StreamFinish::Over(end)),
-        Pause::Starved => pour(alloc, flow, inlets, outs, next),
+        Pause::Cut | Pause::Blocked => return None,
+        Pause::Over(end) => return Some(StreamFinish::Over(end)),
+        Pause::Starved => {}
     }
-}
-
-/// Reads a source that a process waits for, from source `next` on, after it has written all output if a
-/// source may need a read. Returns why the stream ends, if it does.
-fn pour<B: Body, I: Source, O: Sink>(
-    alloc: Global,
-    flow: &mut Flow<B>,
-    inlets: &mut [Inlet<I>],
-    outs: &mut Outs<O>,
-    next: &mut usize,
-) -> Option<StreamFinish>
-    ensures goes_on { GoesOn (family B.Kinds.Kinds) flow.old flow.new inlets.old inlets.new outs.old outs.new result }
-    ensures turn { IfNone result (TakesTurn flow.old inlets.old inlets.new next.old next.new) }
-{
     if wants_more(inlets) {
         if let Err(finish) = outs.flush_all() {
             return Some(finish);

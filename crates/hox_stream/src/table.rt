@@ -2,7 +2,7 @@
 ghost use Rattle.std.specs.Prelude.{◌≡◌, ◌<◌, ◌≤◌, [], true, false, Err, IfErr, IfOk, OnOk, length, set};
 ghost use Rattle.std.specs.Io.KnownBytes.{append_known};
 ghost use Rattle.hox_stream.specs.Lanes.{TakesIn};
-ghost use Rattle.hox_stream.specs.Tables.{EndsTable, FlushesTable, IsTableFault, WritesRows, WritesTable, lane_at, only_at};
+ghost use Rattle.hox_stream.specs.Tables.{EndsRows, FlushesTable, IsTableFault, WritesRows, WritesTable, lane_at, only_at};
 
 use crate::lane::Lane;
 use crate::outlet::write_out;
@@ -144,17 +144,11 @@ impl<S: Sink> TableOutlet<S> {
             return Err(TableFault::Failed);
         }
         if self.take(place, tokens).is_err() {
-            return self.fail(TableFault::Memory);
+            self.fail();
+            return Err(TableFault::Memory);
         }
         let count = shortest(self.lanes.as_slice());
         self.write_rows(count)?;
-        self.end_of_write(place)
-    }
-
-    fn end_of_write(&self, place: usize) -> Result<(), TableFault>
-        requires { place < length self.now.lanes }
-        ensures { IfErr result (IsTableFault self.now) }
-    {
         let lane = self.lane(place);
         if lane.is_misfit() {
             Err(TableFault::Misfit)
@@ -200,13 +194,15 @@ impl<S: Sink> TableOutlet<S> {
         .is_err()
         {
             self.waiting.clear();
-            return self.fail(TableFault::Memory);
+            self.fail();
+            return Err(TableFault::Memory);
         }
         if self.waiting.len() <= PIECE {
             return Ok(());
         }
         if write_out(&mut self.sink, &mut self.waiting).is_err() {
-            return self.fail(TableFault::Failed);
+            self.fail();
+            return Err(TableFault::Failed);
         }
         Ok(())
     }
@@ -220,26 +216,24 @@ impl<S: Sink> TableOutlet<S> {
             return Ok(());
         }
         if write_out(&mut self.sink, &mut self.waiting).is_err() {
-            return self.fail(TableFault::Failed);
+            self.fail();
+            return Err(TableFault::Failed);
         }
         Ok(())
     }
 
     /// Writes all that waits, with gaps where a column is shorter. If it fails, some bytes may have been written.
     pub(crate) fn end(&mut self) -> Result<(), TableFault>
-        ensures ends { EndsTable self.old self.new }
-        ensures failed { IfErr result (λ _. self.new.has_failed ≡ true) }
+        ensures { EndsRows self.old self.new result }
     {
         let count = longest(self.lanes.as_slice());
         self.write_rows(count)?;
         self.flush()
     }
 
-    fn fail(&mut self, fault: TableFault) -> Result<(), TableFault>
-        ensures failed { self.new ≡ record self.old { has_failed = true } }
-        ensures fault { result ≡ Err fault }
+    fn fail(&mut self)
+        ensures { self.new ≡ record self.old { has_failed = true } }
     {
         self.has_failed = true;
-        Err(fault)
     }
 }

@@ -3,7 +3,7 @@ ghost use Rattle.std.specs.Prelude.{◌≡◌, ◌<◌, ℕ, false, IfErr, List,
 ghost use Rattle.kpn_model.specs.Network.{Family};
 ghost use Rattle.kpn_model.specs.Families.{family};
 ghost use Rattle.kpn_flow.specs.Flows.{FlowView};
-ghost use Rattle.hox_stream.specs.Streams.{AllEnd, AllTablesStay, IsFinish, Streams, TellsTables, table_at};
+ghost use Rattle.hox_stream.specs.Streams.{AllTablesStay, IsFinish, Streams, TablesEnd, TellsTables, table_at};
 ghost use Rattle.hox_stream.specs.Tables.{IsTableFault, TellsColumn};
 ghost use Rattle.hox_stream.specs.Views.{InletView, OutletView, TableView, outs};
 
@@ -38,26 +38,6 @@ fn tell_lane<B: Body, S: Sink>(
     }
 }
 
-/// Moves tokens to column `place` of table `k`, if it has one. The tables follow `first` sinks.
-fn tell_lane_at<B: Body, S: Sink>(
-    flow: &mut Flow<B>,
-    tables: &mut [TableOutlet<S>],
-    first: usize,
-    k: usize,
-    place: usize,
-) -> Result<bool, StreamFinish>
-    requires { k < length tables.old }
-    ensures { TellsTables (family B.Kinds.Kinds) flow.old flow.new tables.old tables.new first result }
-{
-    if place >= tables[k].width() {
-        return Ok(false);
-    }
-    match tell_lane(flow, &mut tables[k], place) {
-        Ok(has_moved) => Ok(has_moved),
-        Err(fault) => Err(finish_of(fault, first, k)),
-    }
-}
-
 /// Returns why a stream ends when table `k` has this fault, after `first` sinks.
 fn finish_of(fault: TableFault, first: usize, k: usize) -> StreamFinish
     ensures { (kinds : Family) (s : FlowView) (ins : List InletView) (sinks : List OutletView) (tables : List TableView) → length sinks ≡ first → k < length tables → IsTableFault (table_at tables k) fault → IsFinish kinds s ins (outs sinks tables) result }
@@ -73,6 +53,7 @@ fn finish_of(fault: TableFault, first: usize, k: usize) -> StreamFinish
     }
 }
 
+/// Moves tokens to the columns of table `k`. The tables follow `first` sinks.
 fn tell_table<B: Body, S: Sink>(
     flow: &mut Flow<B>,
     tables: &mut [TableOutlet<S>],
@@ -84,9 +65,9 @@ fn tell_table<B: Body, S: Sink>(
 {
     let mut has_moved = false;
     for place in 0..tables[k].width() {
-        match tell_lane_at(flow, tables, first, k, place) {
+        match tell_lane(flow, &mut tables[k], place) {
             Ok(moved) => has_moved = has_moved || moved,
-            Err(finish) => return Err(finish),
+            Err(fault) => return Err(finish_of(fault, first, k)),
         }
     }
     Ok(has_moved)
@@ -136,8 +117,7 @@ pub(crate) fn end_tables<S: Sink>(
     tables: &mut [TableOutlet<S>],
     first: usize,
 ) -> Result<(), StreamFinish>
-    ensures ends { AllEnd tables.old tables.new }
-    ensures finish { IfErr result (λ f. (kinds : Family) (s : FlowView) (ins : List InletView) (sinks : List OutletView) → length sinks ≡ first → IsFinish kinds s ins (outs sinks tables.new) f) }
+    ensures { TablesEnd tables.old tables.new first result }
 {
     let mut failed = None;
     for k in 0..tables.len() {

@@ -4,7 +4,7 @@ ghost use Rattle.kpn_model.specs.Network.{Family};
 ghost use Rattle.kpn_model.specs.Families.{family};
 ghost use Rattle.kpn_flow.specs.Flows.{FlowView};
 ghost use Rattle.hox_stream.specs.Ports.{TellsSink};
-ghost use Rattle.hox_stream.specs.Streams.{AllEnd, AllFaultsStay, AllStay, AreWritten, IsFinish, Streams, TellsOuts, TellsSinks, outlet_at};
+ghost use Rattle.hox_stream.specs.Streams.{AllFaultsStay, AllStay, AreWritten, IsFinish, OutsEnd, Streams, TellsOuts, TellsSinks, outlet_at};
 ghost use Rattle.hox_stream.specs.Views.{InletView, TableView, outs};
 
 use crate::finish::StreamFinish;
@@ -39,22 +39,6 @@ fn tell<B: Body, S: Sink>(flow: &mut Flow<B>, outlet: &mut Outlet<S>) -> Result<
     }
 }
 
-fn tell_at<B: Body, S: Sink>(
-    flow: &mut Flow<B>,
-    outlets: &mut [Outlet<S>],
-    k: usize,
-) -> Result<bool, StreamFinish>
-    requires { k < length outlets.old }
-    ensures { TellsSinks (family B.Kinds.Kinds) flow.old flow.new outlets.old outlets.new result }
-{
-    match tell(flow, &mut outlets[k]) {
-        Ok(has_moved) => Ok(has_moved),
-        Err(WriteFault::Failed) => Err(StreamFinish::Unwritten(k)),
-        Err(WriteFault::Misfit) => Err(StreamFinish::Misfit(k)),
-        Err(WriteFault::Memory) => Err(StreamFinish::Memory),
-    }
-}
-
 fn tell_sinks<B: Body, S: Sink>(
     flow: &mut Flow<B>,
     outlets: &mut [Outlet<S>],
@@ -63,9 +47,11 @@ fn tell_sinks<B: Body, S: Sink>(
 {
     let mut has_moved = false;
     for k in 0..outlets.len() {
-        match tell_at(flow, outlets, k) {
+        match tell(flow, &mut outlets[k]) {
             Ok(moved) => has_moved = has_moved || moved,
-            Err(finish) => return Err(finish),
+            Err(WriteFault::Failed) => return Err(StreamFinish::Unwritten(k)),
+            Err(WriteFault::Misfit) => return Err(StreamFinish::Misfit(k)),
+            Err(WriteFault::Memory) => return Err(StreamFinish::Memory),
         }
     }
     Ok(has_moved)
@@ -141,9 +127,7 @@ impl<S: Sink> Outs<S> {
     /// Writes all that waits in tables, with gaps where a column is shorter, but nothing to sinks of one
     /// channel. Returns why the stream ends if a write fails.
     pub(crate) fn end(&mut self) -> Result<(), StreamFinish>
-        ensures sinks { self.new.sinks ≡ self.old.sinks }
-        ensures ends { AllEnd self.old.tables self.new.tables }
-        ensures finish { IfErr result (λ f. (kinds : Family) (s : FlowView) (ins : List InletView) → IsFinish kinds s ins self.new f) }
+        ensures { OutsEnd self.old self.new result }
     {
         let first = self.sinks.len();
         end_tables(self.tables.as_mut_slice(), first)

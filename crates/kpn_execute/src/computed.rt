@@ -1,5 +1,5 @@
 //! Networks of families with a plain function for their answers.
-ghost use Rattle.std.specs.Prelude.{◌≤◌, option_map};
+ghost use Rattle.std.specs.Prelude.{option_map};
 ghost use Rattle.kpn_model.specs.Families.{family};
 ghost use Rattle.kpn_execute.specs.Execution.{MakesAndExecutes};
 
@@ -12,8 +12,8 @@ use std::rt::Clock;
 use std::sync::Wait;
 use std::thread::Threads;
 
-/// Runs a network of a family with a plain function for its answers, with 1 to 16 workers, like `execute`,
-/// and makes a body for each process.
+/// Runs a network of a family with a plain function for its answers, like `execute`, and makes a body for each
+/// process.
 ///
 /// Returns the exit status of `execute`, or 4 if out of memory for the bodies (`refused 14`).
 pub fn execute_net<K: Computes, S: Sink, R: Wait + Clock + Threads + Sync>(
@@ -24,7 +24,6 @@ pub fn execute_net<K: Computes, S: Sink, R: Wait + Clock + Threads + Sync>(
     show: Option<&str>,
     sink: &mut S,
 ) -> u8
-    requires workers { (1 ≤ workers) × (workers ≤ 16) }
     ensures { MakesAndExecutes (family K.Kinds) net workers (option_map (λ s. s.now) show.entry) (S.seen sink.old) (S.seen sink.new) result }
 {
     match bodies_of(alloc, &net) {

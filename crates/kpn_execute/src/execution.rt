@@ -5,6 +5,7 @@ ghost use Rattle.kpn_model.specs.Families.{family};
 ghost use Rattle.kpn_machine.specs.Opening.{cards_of};
 ghost use Rattle.kpn_execute.specs.Execution.{status_of_end, IsChannelToShow, Executes, TellsEnded, TellsShown, Writes};
 
+use kpn_args::MAX_WORKERS;
 use kpn_body::Body;
 use kpn_front::{ExitStatus, Sink, say, say_lost, say_no_channel, say_refused};
 use kpn_laws::{determinacy_of, least_room_of, least_solution_of};
@@ -26,9 +27,9 @@ struct WorkersRequest<B: Body> {
     workers: usize,
 }
 
-/// Runs a network with 1 to 16 workers and a body for each process, and writes the report, with the stream of
-/// the channel named by `show`. A single worker is the calling thread, without a lock. Several call the
-/// bodies outside the lock, so a body may wait for another.
+/// Runs a network with a body for each process and `workers` workers, but at least 1 and at most 16, and writes
+/// the report, with the stream of the channel named by `show`. A single worker is the calling thread, without a
+/// lock. Several call the bodies outside the lock, so a body may wait for another.
 ///
 /// If the run is over, each run of the network that is over has the same text. If capacity b suffices for the
 /// network, no channel of capacity b or more grows (Parks 1995; docs/least-room.md). The streams are below
@@ -52,18 +53,17 @@ pub fn execute<B: Body, S: Sink, R: Wait + Clock + Threads + Sync>(
     sink: &mut S,
 ) -> u8
     requires cards { map B.card bodies.items ≡ cards_of net.processes }
-    requires workers { (1 ≤ workers) × (workers ≤ 16) }
     ensures { Executes (family B.Kinds.Kinds) net workers (option_map (λ s. s.now) show.entry) (S.seen sink.old) (S.seen sink.new) result }
 {
     match channel_to_show(&net, show) {
         Ok(channel) => {
-            if workers == 1 {
+            if workers <= 1 {
                 return tell_alone(alloc, net, bodies, channel, sink);
             }
             let request = WorkersRequest {
                 net,
                 bodies,
-                workers,
+                workers: workers.min(MAX_WORKERS),
             };
             tell_by_workers(rt, alloc, request, channel, sink)
         }

@@ -1,6 +1,6 @@
 //! The program, from its arguments and input to its output.
 ghost use Rattle.std.specs.Prelude.{◌≡◌, ◌≢◌, ◌+◌, [], Some, None, string_bytes, IfSome, IfOk, IfErr, OnErr, map};
-ghost use Rattle.kpn_args.specs.Choices.{HasFewWorkers, IsChoice, IsWordsFault};
+ghost use Rattle.kpn_args.specs.Choices.{IsChoice, IsWordsFault};
 ghost use Rattle.kpn_front.specs.Lines.{refused_line, status_of_fault};
 ghost use Rattle.kpn_front.specs.Loading.{ConsumesAtMost, longest};
 ghost use Rattle.kpn_front.specs.Written.{Says};
@@ -90,7 +90,6 @@ fn serve_net<O: Sink, R: Wait + Clock + Threads + Sync>(
     net: Net<Standard>,
     sink: &mut O,
 ) -> u8
-    requires workers { HasFewWorkers choice }
     ensures { Writes (TellsOf choice.entry net) (O.seen sink.old) (O.seen sink.new) result }
 {
     match choice {

@@ -1,5 +1,5 @@
 //! Networks of standard kinds.
-ghost use Rattle.std.specs.Prelude.{◌≡◌, ◌<◌, ◌≤◌, All, IsSome, IfOk, IfSome, OnErr, Some, length, option_map, slice_get};
+ghost use Rattle.std.specs.Prelude.{◌≡◌, ◌<◌, All, IsSome, IfOk, IfSome, MatchOption, OnErr, Some, length, option_map, slice_get};
 ghost use Rattle.kpn_standard.specs.Standard.{standard};
 ghost use Rattle.kpn_standard.specs.Signatures.{card_of_kind};
 ghost use Rattle.kpn_standard.specs.Table.{row_of};
@@ -22,8 +22,7 @@ use std::rt::Clock;
 use std::sync::Wait;
 use std::thread::Threads;
 
-/// Runs a network of standard kinds with 1 to 16 workers, like `execute`, and makes a body for each process,
-/// with its own closure.
+/// Runs a network of standard kinds, like `execute`, and makes a body for each process, with its own closure.
 ///
 /// Returns the exit status of `execute`, or 4 if out of memory for a body (`refused 14`).
 pub fn execute_standard<S: Sink, R: Wait + Clock + Threads + Sync>(
@@ -34,7 +33,6 @@ pub fn execute_standard<S: Sink, R: Wait + Clock + Threads + Sync>(
     show: Option<&str>,
     sink: &mut S,
 ) -> u8
-    requires workers { (1 ≤ workers) × (workers ≤ 16) }
     ensures { MakesAndExecutes standard net workers (option_map (λ s. s.now) show.entry) (S.seen sink.old) (S.seen sink.new) result }
 {
     let Ok(cards) = cards_of(alloc, &net) else {
@@ -72,9 +70,7 @@ fn make_and_execute<S: Sink, R: Wait + Clock + Threads + Sync>(
     sink: &mut S,
 ) -> Result<u8, AllocError>
     requires signed { All (λ card. IsSome (signature card)) request.cards.now }
-    requires cards { IfSome request.net (λ n. request.cards.now ≡ cards_of n.processes) }
-    requires some { IsSome request.net }
-    requires workers { (1 ≤ request.workers) × (request.workers ≤ 16) }
+    requires cards { MatchOption request.net ⊥ (λ n. request.cards.now ≡ cards_of n.processes) }
     ensures ok { IfOk result (λ status. IfSome request.entry.net (λ n. Executes standard n request.entry.workers (option_map (λ s. s.now) request.entry.show) (S.seen sink.old) (S.seen sink.new) status)) }
     ensures err { OnErr result (sink.new ≡ sink.old) }
 {
@@ -86,9 +82,9 @@ fn make_and_execute<S: Sink, R: Wait + Clock + Threads + Sync>(
     } = request;
     let mut bodies = Vec::new(alloc);
     for process in 0..cards.len() {
-        let card = signed_card(cards, process);
+        let (card, kind) = signed_card(cards, process);
         let args = card.args;
-        let body = match kind_of(card) {
+        let body = match kind {
             Kind::Count => {
                 let call: Call = Box::new(
                     alloc,
@@ -209,21 +205,17 @@ fn make_and_execute<S: Sink, R: Wait + Clock + Threads + Sync>(
     Ok(execute(rt, alloc, net, bodies, workers, show, sink))
 }
 
-fn signed_card(cards: &[Card], process: usize) -> Card
+/// Returns the card of a process, and its kind.
+fn signed_card(cards: &[Card], process: usize) -> (Card, Kind)
     requires signed { All (λ card. IsSome (signature card)) cards.now }
     requires within { process < length cards.now }
-    ensures signed { IsSome (signature result) }
-    ensures is { slice_get cards.now process ≡ Some result }
+    ensures card { slice_get cards.now process ≡ Some result.0 }
+    ensures signed { IsSome (signature result.0) }
+    ensures kind { (row_of result.1).number ≡ result.0.kind }
 {
-    cards[process]
-}
-
-fn kind_of(card: Card) -> Kind
-    requires signed { IsSome (signature card) }
-    ensures number { (row_of result).number ≡ card.kind }
-{
+    let card = cards[process];
     match Kind::numbered(card.kind) {
-        Some(kind) => kind,
+        Some(kind) => (card, kind),
         None => unreachable!(),
     }
 }

@@ -1,16 +1,17 @@
 -- What `Net::check` returns is what is loaded.
-use Rattle.std.proofs.Common.{◌≡◌, ◌≢◌, ℕ, Bool, true, false, cond, List, [], ◌∷◌, Option, Some, None, Result, Ok, Err, IfOk, IfErr, IfSome, refl, ◌∙◌}
+use Rattle.std.proofs.Common.{◌≡◌, ◌≢◌, ℕ, Bool, true, false, cond, List, [], ◌∷◌, Option, Some, None, Result, Ok, Err, IfOk, IfErr, IfSome, ◌≤◌, length, refl, sym, ◌∙◌}
+use Rattle.std.proofs.lemmas.Bool.{false≢true}
 use Rattle.std.specs.List.{find}
 use Rattle.kpn_sketch.specs.declared.fault.NetFault.{NetFault}
 use Rattle.kpn_sketch.specs.declared.fault.NetFault.TheVariants.{NotToml, Keys, Version, Counts, Name, Kind, Args, NoEnd, Twice, Unused, Sorts, Capacity, Budget, Memory, Input, Tokens, Step}
 use Rattle.kpn_model.specs.declared.kinds.Card.{Card}
 use Rattle.kpn_model.specs.declared.kinds.Signature.{Signature}
 use Rattle.kpn_sketch.specs.declared.sketch.Sketch.{Sketch}
-use Rattle.kpn_sketch.specs.Description.{DescribesBy, Reader}
+use Rattle.kpn_sketch.specs.Description.{DescribesBy, IsFaultBy, Reader}
 use Rattle.kpn_net.specs.Faults.{first_fault, has_fault}
 use Rattle.kpn_model.specs.Network.{Network}
 use Rattle.kpn_net.specs.Sketched.{net_of}
-use Rattle.kpn_front.specs.Loading.{LoadsChanged, IsWhole, IsLoadFault}
+use Rattle.kpn_front.specs.Loading.{LoadsChanged, LoadsFrom, ReadsFrom, IsWhole, IsLoadFault, longest}
 
 -- if an item is found, first or later, it passes the test
 found_at : {A : Type 0} (p : A → Bool) (y x : A) (rest : Option A) (b : Bool) → p y ≡ b → (rest ≡ Some x → p x ≡ true) → cond b (Some y) rest ≡ Some x → p x ≡ true
@@ -63,3 +64,38 @@ module _ (named : List ℕ → Option (ℕ × ℕ)) (signature : Card → Option
         → LoadsChanged read change named signature false text r → IfSome known (λ t. LoadsChanged read change named signature failed t r)
     loads_known failed None text r same e h = tt
     loads_known failed (Some t) text r same e h = rw (← same, e) h
+
+    -- the fault of a text that can't be read is a fault of loading
+    unread : (failed : Bool) (text : List ℕ) (e : NetFault) → IsWhole failed text → IsFaultBy read text e → IsLoadFault read change named signature failed text e
+    unread failed text Memory whole f = whole.0
+    unread failed text NotToml whole f = (whole, f)
+    unread failed text Keys whole f = (whole, f)
+    unread failed text Input whole f = absurd f
+    unread failed text Version whole f = absurd f
+    unread failed text Counts whole f = absurd f
+    unread failed text Name whole f = absurd f
+    unread failed text Kind whole f = absurd f
+    unread failed text Args whole f = absurd f
+    unread failed text NoEnd whole f = absurd f
+    unread failed text Twice whole f = absurd f
+    unread failed text Unused whole f = absurd f
+    unread failed text Sorts whole f = absurd f
+    unread failed text Capacity whole f = absurd f
+    unread failed text Budget whole f = absurd f
+    unread failed text Tokens whole f = absurd f
+    unread failed text Step whole f = absurd f
+
+    pub loads_unread : (text : List ℕ) (e : NetFault) → length text ≤ longest → IsFaultBy read text e → LoadsChanged read change named signature false text (Err e)
+    loads_unread text e short f = unread false text e (refl, short) f
+
+    -- what is loaded of the text that was read is loaded of the source
+    pub loads_read :
+        {S : Type 0} (is_steady has_failed : S → Bool) (remaining : S → Option (List ℕ)) (before after : S) (text : List ℕ) (r : Result Network NetFault)
+        → IfSome (remaining before) (λ t. text ≡ t) → has_failed after ≡ has_failed before → ReadsFrom is_steady has_failed remaining before after
+        → LoadsChanged read change named signature false text r → LoadsFrom (LoadsChanged read change named signature) is_steady has_failed remaining before after r
+    loads_read is_steady has_failed remaining before after text r same kept source loaded =
+        record {
+          loads = λ fresh. loads_known (has_failed after) (remaining before) text r same (kept ∙ fresh) loaded;
+          failed = λ fresh failed. let bad : false ≡ true = sym fresh ∙ (sym kept ∙ failed) in absurd (false≢true bad);
+          source = source;
+        }

@@ -1,5 +1,5 @@
 -- Loading from a source of bytes.
-use Rattle.std.specs.Prelude.{◌≡◌, ◌⊎◌, ◌≤◌, ◌<◌, ℕ, Bool, true, false, List, [], length, Option, Some, None, Result, Ok, Err, MatchResult}
+use Rattle.std.specs.Prelude.{◌≡◌, ◌⊎◌, ◌≤◌, ◌<◌, ◌+◌, ℕ, Bool, true, false, List, [], length, Option, Some, None, IfSome, Result, Ok, Err, MatchResult}
 use Rattle.std.specs.Io.KnownBytes.{Consumes}
 use Rattle.kpn_sketch.specs.declared.fault.NetFault.{NetFault}
 use Rattle.kpn_sketch.specs.declared.fault.NetFault.TheVariants.{NotToml, Keys, Memory, Input}
@@ -54,3 +54,17 @@ module _ {A : Type 0} (read : Reader A) (change : A → Sketch) (named : List �
 -- without a change of the sketch
 abbrev pub Loads : (List ℕ → Option (ℕ × ℕ)) → (Card → Option Signature) → Bool → List ℕ → Result Network NetFault → Type 0
 Loads = LoadsChanged sketch_of (λ sketch. sketch)
+
+-- a source before and after a description is read from it
+module _ {S : Type 0} (is_steady has_failed : S → Bool) (remaining : S → Option (List ℕ)) (before after : S) where
+  -- no read of a steady source fails
+  pub record ReadsFrom : Type 0 where
+    pub steady : is_steady before ≡ true → has_failed after ≡ has_failed before
+    pub taken : ConsumesAtMost (longest + 1) (remaining before) (remaining after)
+
+-- the result is what `says` tells of the source's text, if known, given whether a read failed
+pub record LoadsFrom {S : Type 0} (says : Bool → List ℕ → Result Network NetFault → Type 0)
+    (is_steady has_failed : S → Bool) (remaining : S → Option (List ℕ)) (before after : S) (result : Result Network NetFault) : Type 0 where
+  pub loads : has_failed before ≡ false → IfSome (remaining before) (λ text. says (has_failed after) text result)
+  pub failed : has_failed before ≡ false → has_failed after ≡ true → result ≡ Err Input
+  pub source : ReadsFrom is_steady has_failed remaining before after

@@ -1,6 +1,6 @@
 //! Reads a network from a source.
 ghost use Rattle.std.specs.Prelude.{◌≡◌, ◌≢◌, false, ◌≤◌, ◌<◌, ◌+◌, ◌⊎◌, true, IsTrue, IfOk, IfErr, IfSome, length};
-ghost use Rattle.kpn_front.specs.Loading.{Loads, ConsumesAtMost, longest, without_text, IsTextOf};
+ghost use Rattle.kpn_front.specs.Loading.{Loads, LoadsFrom, ReadsFrom, longest, without_text, IsTextOf};
 
 use crate::streams::Source;
 use kpn_model::limits::LONGEST_TEXT;
@@ -22,21 +22,15 @@ pub struct Refused {
 /// Errors: `Input` if the source has more than 1,048,576 bytes or a read fails, whatever the bytes; the fault
 /// that `read_sketch` or `Net::check` finds; or `Memory` if out of memory. The bytes read are consumed.
 pub fn load<K: Kinds, S: Source>(alloc: Global, source: &mut S) -> Result<Net<K>, NetFault>
-    ensures loads { S.has_failed source.old ≡ false → IfSome (S.remaining source.old) (λ text. Loads K.named K.signature (S.has_failed source.new) text result) }
-    ensures failed { S.has_failed source.old ≡ false → S.has_failed source.new ≡ true → result ≡ Err NetFault.Input }
-    ensures steady { S.is_steady source.old ≡ true → S.has_failed source.new ≡ S.has_failed source.old }
-    ensures taken { ConsumesAtMost (longest + 1) (S.remaining source.old) (S.remaining source.new) }
+    ensures { LoadsFrom (Loads K.named K.signature) S.is_steady S.has_failed S.remaining source.old source.new result }
 {
     load_or_refuse(alloc, source).map_err(|refused| refused.fault)
 }
 
 /// Loads a network like `load`, and returns a refused description's text, too.
 pub fn load_or_refuse<K: Kinds, S: Source>(alloc: Global, source: &mut S) -> Result<Net<K>, Refused>
-    ensures loads { S.has_failed source.old ≡ false → IfSome (S.remaining source.old) (λ text. Loads K.named K.signature (S.has_failed source.new) text (without_text result)) }
+    ensures loaded { LoadsFrom (Loads K.named K.signature) S.is_steady S.has_failed S.remaining source.old source.new (without_text result) }
     ensures text { IfSome (S.remaining source.old) (λ text. IfErr result (IsTextOf text)) }
-    ensures failed { S.has_failed source.old ≡ false → S.has_failed source.new ≡ true → without_text result ≡ Err NetFault.Input }
-    ensures steady { S.is_steady source.old ≡ true → S.has_failed source.new ≡ S.has_failed source.old }
-    ensures taken { ConsumesAtMost (longest + 1) (S.remaining source.old) (S.remaining source.new) }
 {
     let text = match read_text(alloc, source) {
         Ok(text) => text,
@@ -45,18 +39,14 @@ pub fn load_or_refuse<K: Kinds, S: Source>(alloc: Global, source: &mut S) -> Res
             return Err(Refused { fault, text });
         }
     };
-    match net_of_text(alloc, text.as_slice()) {
+    let sketch = match read_sketch(alloc, text.as_slice()) {
+        Ok(sketch) => sketch,
+        Err(fault) => return Err(Refused { fault, text }),
+    };
+    match Net::check(alloc, &sketch) {
         Ok(net) => Ok(net),
         Err(fault) => Err(Refused { fault, text }),
     }
-}
-
-fn net_of_text<K: Kinds>(alloc: Global, text: &[u8]) -> Result<Net<K>, NetFault>
-    requires { length text.now ≤ longest }
-    ensures { Loads K.named K.signature false text.now result }
-{
-    let sketch = read_sketch(alloc, text)?;
-    Net::check(alloc, &sketch)
 }
 
 /// Reads a source to its end and returns its bytes, at most 1 MiB.
@@ -68,8 +58,7 @@ pub fn read_text<S: Source>(alloc: Global, source: &mut S) -> Result<Vec<u8>, Ne
     ensures input { result ≡ Err NetFault.Input → (S.has_failed source.new ≡ true) ⊎ IfSome (S.remaining source.old) (λ text. longest < length text) }
     ensures fault { IfErr result (λ e. (e ≡ NetFault.Input) ⊎ (e ≡ NetFault.Memory)) }
     ensures failed { result ≢ Err NetFault.Input → S.has_failed source.new ≡ S.has_failed source.old }
-    ensures steady { S.is_steady source.old ≡ true → S.has_failed source.new ≡ S.has_failed source.old }
-    ensures taken { ConsumesAtMost (longest + 1) (S.remaining source.old) (S.remaining source.new) }
+    ensures source { ReadsFrom S.is_steady S.has_failed S.remaining source.old source.new }
 {
     let mut text = Vec::new(alloc);
     let mut chunk = [0; CHUNK];

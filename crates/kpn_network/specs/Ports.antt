@@ -1,5 +1,5 @@
 -- A table of the channels at the ports of each process.
-use Rattle.std.specs.Prelude.{◌≡◌, ℕ, ◌<◌, ◌==◌, ◌&&◌, List, [], ◌∷◌, Option, length, get_or, position}
+use Rattle.std.specs.Prelude.{◌≡◌, ℕ, ◌<◌, ◌==◌, ◌&&◌, List, [], ◌∷◌, Option, length, get_or, position, IfSome}
 use Rattle.kpn_model.specs.declared.parts.Channel.{Channel}
 use Rattle.kpn_network.specs.declared.ports.Ports.{Ports}
 
@@ -18,3 +18,8 @@ no_ports = record { ins = []; outs = [] }
 pub record HasPorts (channels : List Channel) (count : ℕ) (ports : List Ports) : Type 0 where
   pub many : length ports ≡ count
   pub each : (p : ℕ) → p < count → get_or ports p no_ports ≡ ports_at channels p
+
+-- what was searched for among so many channels: the number of one, if there is one
+pub record Finds (channels : ℕ) (found result : Option ℕ) : Type 0 where
+  pub is : result ≡ found
+  pub within : IfSome result (λ c. c < channels)

@@ -3,6 +3,7 @@ ghost use Rattle.std.specs.Prelude.{◌≡◌, ◌<◌, IfOk, IfSome, IsSome, So
 ghost use Rattle.kpn_model.specs.Network.{card_of, channel_of, in_of, number_of_channel, out_of};
 ghost use Rattle.kpn_model.specs.Valid.{IsValid};
 ghost use Rattle.kpn_network.specs.Parts.{network_of};
+ghost use Rattle.kpn_network.specs.Ports.{Finds};
 
 use crate::ports::{Ports, find_in, find_out, table_of};
 use kpn_model::{Card, Channel, Ends, Kinds, Process, Sort, Token};
@@ -246,8 +247,7 @@ impl<K: Kinds> Net<K> {
 
     /// Returns the channel at input `port` of process `p`; `None` if there is no such process or input.
     pub fn in_of(&self, p: usize, port: usize) -> Option<usize>
-        ensures is { result ≡ in_of self.now p port }
-        ensures within { IfSome result (λ c. c < length self.now.channels) }
+        ensures { Finds (length self.now.channels) (in_of self.now p port) result }
     {
         if p < self.ports.len() {
             self.input_at(p, port)
@@ -261,8 +261,7 @@ impl<K: Kinds> Net<K> {
     #[inline(always)]
     pub fn input_at(&self, p: usize, port: usize) -> Option<usize>
         requires process { p < length self.now.processes }
-        ensures is { result ≡ in_of self.now p port }
-        ensures within { IfSome result (λ c. c < length self.now.channels) }
+        ensures { Finds (length self.now.channels) (in_of self.now p port) result }
     {
         if port < 3 {
             self.ports[p].ins[port]
@@ -273,8 +272,7 @@ impl<K: Kinds> Net<K> {
 
     /// Returns the channel at output `port` of process `p`; `None` if there is no such process or output.
     pub fn out_of(&self, p: usize, port: usize) -> Option<usize>
-        ensures is { result ≡ out_of self.now p port }
-        ensures within { IfSome result (λ c. c < length self.now.channels) }
+        ensures { Finds (length self.now.channels) (out_of self.now p port) result }
     {
         if p < self.ports.len() {
             self.output_at(p, port)
@@ -288,8 +286,7 @@ impl<K: Kinds> Net<K> {
     #[inline(always)]
     pub fn output_at(&self, p: usize, port: usize) -> Option<usize>
         requires process { p < length self.now.processes }
-        ensures is { result ≡ out_of self.now p port }
-        ensures within { IfSome result (λ c. c < length self.now.channels) }
+        ensures { Finds (length self.now.channels) (out_of self.now p port) result }
     {
         if port < 3 {
             self.ports[p].outs[port]

@@ -1,6 +1,7 @@
 //! The kinds that write what they read: each function returns its kind's answer.
 ghost use Rattle.std.specs.Prelude.{◌≡◌};
-ghost use Rattle.kpn_standard.specs.Standard.{standard};
+ghost use Rattle.kpn_standard.specs.Locals.{got as got_of};
+ghost use Rattle.kpn_standard.specs.Copies.{take_answer, copy_answer, prefix_answer};
 ghost use Rattle.kpn_standard.specs.Signatures.{card_of_kind};
 ghost use Rattle.kpn_standard.specs.Admitted.{Admitted};
 
@@ -11,7 +12,7 @@ use kpn_model::{Answer, Local, Token};
 /// Reads and writes `args[0]` words, then stops.
 pub fn take(args: [u64; 3], local: Local, last: Option<Token>) -> Answer
     requires { Admitted (card_of_kind Kind.Take args) local last }
-    ensures { result ≡ standard.answer (card_of_kind Kind.Take args) local last }
+    ensures { result ≡ take_answer args local (got_of last) }
 {
     let i = local[1];
     if local[0] == 1 {
@@ -25,7 +26,7 @@ pub fn take(args: [u64; 3], local: Local, last: Option<Token>) -> Answer
 
 /// Reads a word, and writes it to output 0, then to output 1, forever.
 pub fn copy(args: [u64; 3], local: Local, last: Option<Token>) -> Answer
-    ensures { result ≡ standard.answer (card_of_kind Kind.Copy args) local last }
+    ensures { result ≡ copy_answer args local (got_of last) }
 {
     match local[0] {
         0 => reads([1, 0, 0, 0], 0),
@@ -36,7 +37,7 @@ pub fn copy(args: [u64; 3], local: Local, last: Option<Token>) -> Answer
 
 /// Writes the word `args[0]`, then reads and writes forever.
 pub fn prefix(args: [u64; 3], local: Local, last: Option<Token>) -> Answer
-    ensures { result ≡ standard.answer (card_of_kind Kind.Prefix args) local last }
+    ensures { result ≡ prefix_answer args local (got_of last) }
 {
     match local[0] {
         0 => writes([1, 0, 0, 0], 0, Token::Word(args[0])),

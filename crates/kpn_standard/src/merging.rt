@@ -1,7 +1,7 @@
 //! The kinds that join two inputs: each function returns its kind's answer.
 ghost use Rattle.std.specs.Prelude.{◌≡◌};
-ghost use Rattle.kpn_standard.specs.Standard.{standard};
-ghost use Rattle.kpn_standard.specs.Merging.{emit};
+ghost use Rattle.kpn_standard.specs.Locals.{got as got_of};
+ghost use Rattle.kpn_standard.specs.Merging.{emit, weave_answer, merge_answer};
 ghost use Rattle.kpn_standard.specs.Signatures.{card_of_kind};
 ghost use Rattle.kpn_standard.specs.Admitted.{Admitted};
 
@@ -37,7 +37,7 @@ const SECOND_KEPT_FIRST_READ: u64 = 5;
 /// Copies `args[0]` words of input 0, then `args[1]` of input 1, forever.
 pub fn weave(args: [u64; 3], local: Local, last: Option<Token>) -> Answer
     requires { Admitted (card_of_kind Kind.Weave args) local last }
-    ensures { result ≡ standard.answer (card_of_kind Kind.Weave args) local last }
+    ensures { result ≡ weave_answer args local (got_of last) }
 {
     let [a, b, _] = args;
     let i = local[1];
@@ -54,7 +54,7 @@ pub fn weave(args: [u64; 3], local: Local, last: Option<Token>) -> Answer
 /// Keeps the next word of each input, writes the lesser, and reads that input again, forever. Of two equal
 /// words it writes one and reads both inputs again, input 0 first.
 pub fn merge(args: [u64; 3], local: Local, last: Option<Token>) -> Answer
-    ensures { result ≡ standard.answer (card_of_kind Kind.Merge args) local last }
+    ensures { result ≡ merge_answer args local (got_of last) }
 {
     match local[0] {
         NONE_KEPT => reads([FIRST_READ, 0, 0, 0], 0),

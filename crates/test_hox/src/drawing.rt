@@ -1,11 +1,10 @@
 //! Worked pictures, and command lines that ask for them.
-ghost use Rattle.std.specs.Prelude.{◌≤◌, IfSome};
 
 use crate::checks::same;
-use crate::samples::{plain, with_tokens};
+use crate::samples::asked;
 use hox_args::{Choice, Direction, DrawChoice, WordsFault, read_words};
 use hox_draw::{WantedPicture, draw};
-use hox_network::{AllKinds, Fault, Request};
+use hox_network::{AllKinds, Fault};
 use std::alloc::{AllocError, Global};
 use std::process::Abort;
 use std::rt::Clock;
@@ -40,20 +39,20 @@ channel = [
 ]
 "#;
 
-/// Returns the picture of a network, or of its run, to the right; or the line of its fault.
+/// Returns the picture of a network, or of its run by these workers, to the right; or the line of its fault. Channel
+/// x has these tokens, if any.
 fn told<R: AllocGlobal + Wait + Clock + Threads + Abort + Sync>(
     rt: &R,
     text: &str,
-    request: &Request,
-    is_run: bool,
-) -> String
-    requires { (1 ≤ request.now.workers) × (request.now.workers ≤ 16) }
-{
+    tokens: Option<&str>,
+    workers: Option<usize>,
+) -> String {
     let mut source = text.as_bytes();
+    let request = asked(rt, rt.alloc(), tokens, &[], workers.unwrap_or(1));
     let wanted = WantedPicture {
-        request,
+        request: &request,
         direction: Direction::Right,
-        is_run,
+        is_run: workers.is_some(),
     };
     let told = draw::<AllKinds, _, _>(rt, rt.alloc(), &wanted, &mut source);
     match told {
@@ -72,19 +71,6 @@ fn refusal<R: AllocGlobal + Abort>(rt: &R, fault: &Fault) -> String {
     format!(in rt.alloc(); "{status} {number}").expect(rt, "no memory")
 }
 
-fn tells<R: AllocGlobal + Wait + Clock + Threads + Abort + Sync>(
-    rt: &R,
-    text: &str,
-    workers: Option<usize>,
-    due: &str,
-)
-    requires { IfSome workers (λ n. (1 ≤ n) × (n ≤ 16)) }
-{
-    let request = plain(rt.alloc(), workers.unwrap_or(1));
-    let told = told(rt, text, &request, workers.is_some());
-    same(rt, text, told.as_str(), due);
-}
-
 pub(crate) fn drawn<R: AllocGlobal + Abort>(rt: &R, worked: &str) -> String {
     format!(in rt.alloc(); "{HEAD}{worked}").expect(rt, "no memory")
 }
@@ -98,7 +84,8 @@ pub(crate) const COUNTER_LINES: &str = r#"  "src" [label="src\ncount 1 3"];
 #[test]
 fn draws_a_description(rt: HostRuntime) {
     let whole = drawn(&rt, COUNTER_LINES);
-    tells(&rt, COUNTER, None, whole.as_str());
+    let told = told(&rt, COUNTER, None, None);
+    same(&rt, COUNTER, told.as_str(), whole.as_str());
 }
 
 const LOOP_LINES: &str = r##"  label="cycle ad c2 cp c1 (deadlock)";
@@ -116,8 +103,10 @@ const LOOP_LINES: &str = r##"  label="cycle ad c2 cp c1 (deadlock)";
 #[test]
 fn draws_a_deadlock_with_its_cycle(rt: HostRuntime) {
     let whole = drawn(&rt, LOOP_LINES);
-    tells(&rt, LOOP, Some(1), whole.as_str());
-    tells(&rt, LOOP, Some(2), whole.as_str());
+    for workers in 0..=17usize {
+        let told = told(&rt, LOOP, None, Some(workers));
+        same(&rt, LOOP, told.as_str(), whole.as_str());
+    }
 }
 
 const SPENT_LINES: &str = r#"  label="cut (budget spent)";
@@ -137,7 +126,8 @@ fn counter_of_three_entries<R: AllocGlobal + Abort>(rt: &R) -> String {
 fn draws_a_spent_budget(rt: HostRuntime) {
     let text = counter_of_three_entries(&rt);
     let whole = drawn(&rt, SPENT_LINES);
-    tells(&rt, text.as_str(), Some(1), whole.as_str());
+    let told = told(&rt, text.as_str(), None, Some(1));
+    same(&rt, "spent", told.as_str(), whole.as_str());
 }
 
 /// Wrong texts, each with its exit status and the number of its fault.
@@ -150,8 +140,10 @@ static REFUSED: [(&str, &str); 3] = [
 #[test]
 fn refuses_as_the_other_programs_do(rt: HostRuntime) {
     for (text, line) in &REFUSED {
-        tells(&rt, text, None, line);
-        tells(&rt, text, Some(1), line);
+        let drawn = told(&rt, text, None, None);
+        same(&rt, text, drawn.as_str(), *line);
+        let ran = told(&rt, text, None, Some(1));
+        same(&rt, text, ran.as_str(), *line);
     }
 }
 
@@ -170,9 +162,8 @@ const SAMPLES_LINES: &str = r##"  label="finished (terminated)";
 
 #[test]
 fn draws_what_a_file_says(rt: HostRuntime) {
-    let request = with_tokens(&rt, rt.alloc(), "7\n8\n", 1);
     let whole = drawn(&rt, SAMPLES_LINES);
-    let told = told(&rt, SAMPLES, &request, true);
+    let told = told(&rt, SAMPLES, Some("7\n8\n"), Some(1));
     same(&rt, "samples", told.as_str(), whole.as_str());
 }
 
@@ -200,22 +191,17 @@ const FORMULAS_LINES: &str = r#"  "src" [label="src\ncount 1 3"];
   "told" [label="told\ndrain_flags"];
 "#;
 
-/// Whether the picture of the formulas, or of a run of them, begins with these lines.
-fn shows_formulas<R: AllocGlobal + Wait + Clock + Threads + Abort + Sync>(
-    rt: &R,
-    is_run: bool,
-    lines: &str,
-) {
-    let request = plain(rt.alloc(), 1);
-    let told = told(rt, FORMULAS, &request, is_run);
+/// The picture begins with these lines.
+fn begins<R: AllocGlobal + Abort>(rt: &R, picture: &str, lines: &str) {
     let whole = drawn(rt, lines);
-    let begins = told.as_str().starts_with(whole.as_str());
-    same(rt, told.as_str(), begins, true);
+    let begins = picture.starts_with(whole.as_str());
+    same(rt, picture, begins, true);
 }
 
 #[test]
 fn draws_formulas_as_they_are_described(rt: HostRuntime) {
-    shows_formulas(&rt, false, FORMULAS_LINES);
+    let told = told(&rt, FORMULAS, None, None);
+    begins(&rt, told.as_str(), FORMULAS_LINES);
 }
 
 const RUN_LINES: &str = r##"  label="ran dry (deadlock)";
@@ -225,7 +211,8 @@ const RUN_LINES: &str = r##"  label="ran dry (deadlock)";
 
 #[test]
 fn draws_formulas_after_a_run(rt: HostRuntime) {
-    shows_formulas(&rt, true, RUN_LINES);
+    let told = told(&rt, FORMULAS, None, Some(1));
+    begins(&rt, told.as_str(), RUN_LINES);
 }
 
 fn asked_for<R: Abort>(rt: &R, alloc: Global, words: &[&str]) -> String {

@@ -1,5 +1,4 @@
 //! Worked runs on tokens of files, and worked command lines of hox.
-ghost use Rattle.std.specs.Prelude.{◌≡◌, ◌≤◌};
 
 use crate::checks::same;
 use hox_args::{Choice, WordsFault, channel_and_file, read_words};
@@ -84,16 +83,13 @@ fn streams_as<R: Abort>(rt: &R, alloc: Global, channels: &[&str]) -> Listed<Stre
     Listed::new(streams)
 }
 
-pub(crate) fn plain(alloc: Global, workers: usize) -> Request
-    ensures { result.workers ≡ workers }
-{
-    Request {
-        workers,
-        budget: None,
-        tokens: Listed::new(Vec::new(alloc)),
-        show: Listed::new(Vec::new(alloc)),
-        outputs: Listed::new(Vec::new(alloc)),
+fn outputs_as<R: Abort>(rt: &R, alloc: Global, channels: &[&str]) -> Listed<StreamAs<Layout>> {
+    let mut outputs = Vec::new(alloc);
+    for channel in channels {
+        let output = stream_as(rt, alloc, *channel, Layout::PLAIN);
+        outputs.push(output).expect(rt, "no memory");
     }
+    Listed::new(outputs)
 }
 
 fn file_of<R: Abort>(rt: &R, alloc: Global, channel: &str, tokens: &str) -> TokenFile {
@@ -106,24 +102,30 @@ fn file_of<R: Abort>(rt: &R, alloc: Global, channel: &str, tokens: &str) -> Toke
     }
 }
 
-/// Channel x has these tokens.
-pub(crate) fn with_tokens<R: Abort>(rt: &R, alloc: Global, tokens: &str, workers: usize) -> Request
-    ensures { result.workers ≡ workers }
-{
-    let mut request = plain(alloc, workers);
-    let file = file_of(rt, alloc, "x", tokens);
-    request.tokens.push(file).expect(rt, "no memory");
-    request
+fn files_of<R: Abort>(rt: &R, alloc: Global, tokens: Option<&str>) -> Listed<TokenFile> {
+    let mut files = Vec::new(alloc);
+    if let Some(tokens) = tokens {
+        let file = file_of(rt, alloc, "x", tokens);
+        files.push(file).expect(rt, "no memory");
+    }
+    Listed::new(files)
 }
 
-/// Channel x has these tokens, and channel y is an output.
-fn asked<R: Abort>(rt: &R, alloc: Global, tokens: &str, workers: usize) -> Request
-    ensures { result.workers ≡ workers }
-{
-    let mut request = with_tokens(rt, alloc, tokens, workers);
-    let wanted = stream_as(rt, alloc, "y", Layout::PLAIN);
-    request.outputs.push(wanted).expect(rt, "no memory");
-    request
+/// Channel x has these tokens, if any, and these channels are outputs.
+pub(crate) fn asked<R: Abort>(
+    rt: &R,
+    alloc: Global,
+    tokens: Option<&str>,
+    outputs: &[&str],
+    workers: usize,
+) -> Request {
+    Request {
+        workers,
+        budget: None,
+        tokens: files_of(rt, alloc, tokens),
+        show: Listed::new(Vec::new(alloc)),
+        outputs: outputs_as(rt, alloc, outputs),
+    }
 }
 
 fn told_of<R: AllocGlobal + Wait + Clock + Threads + Abort + Sync, P: ProgressReceiver>(
@@ -131,9 +133,7 @@ fn told_of<R: AllocGlobal + Wait + Clock + Threads + Abort + Sync, P: ProgressRe
     text: &str,
     request: &Request,
     progress: &P,
-) -> Told
-    requires { (1 ≤ request.now.workers) × (request.now.workers ≤ 16) }
-{
+) -> Told {
     let mut source = text.as_bytes();
     let told = serve::<AllKinds, _, _, _>(rt, rt.alloc(), request, &mut source, progress);
     let Ok(told) = told else {
@@ -154,8 +154,8 @@ fn compare_output<R: Abort>(rt: &R, told: &Told, tokens: &[Token]) {
 
 #[test]
 fn words_of_a_file_go_through(rt: HostRuntime) {
-    for workers in 1..=2usize {
-        let request = asked(&rt, rt.alloc(), "1, first\n0x10", workers);
+    for workers in 0..=17usize {
+        let request = asked(&rt, rt.alloc(), Some("1, first\n0x10"), &["y"], workers);
         let told = told_of(&rt, COPY, &request, &Silent);
         compare_report(&rt, &told, 0, COPY_LINES);
         compare_output(&rt, &told, &[Token::Word(1), Token::Word(16)]);
@@ -164,7 +164,7 @@ fn words_of_a_file_go_through(rt: HostRuntime) {
 
 #[test]
 fn the_streams_of_two_channels_are_shown(rt: HostRuntime) {
-    let mut request = asked(&rt, rt.alloc(), "5\n6\n7\n", 1);
+    let mut request = asked(&rt, rt.alloc(), Some("5\n6\n7\n"), &["y"], 1);
     request.show = streams_as(&rt, rt.alloc(), &["y", "x"]);
     let told = told_of(&rt, COPY, &request, &Silent);
     compare_report(&rt, &told, 0, SHOWN_LINES);
@@ -182,7 +182,7 @@ fn noted(notes: &Notes) -> (Option<(&str, usize, usize)>, usize, Option<u64>) {
 
 #[test]
 fn a_run_notes_what_it_left(rt: HostRuntime) {
-    let request = with_tokens(&rt, rt.alloc(), "5\n-6\n7\n8\n", 1);
+    let request = asked(&rt, rt.alloc(), Some("5\n-6\n7\n8\n"), &[], 1);
     let told = told_of(&rt, COPY, &request, &Silent);
     same(
         &rt,
@@ -190,25 +190,21 @@ fn a_run_notes_what_it_left(rt: HostRuntime) {
         noted(&told.notes),
         (Some(("x", 4, 2)), 1, None),
     );
-    let told = told_of(&rt, COPY, &plain(rt.alloc(), 2), &Silent);
+    let told = told_of(&rt, COPY, &asked(&rt, rt.alloc(), None, &[], 2), &Silent);
     same(
         &rt,
         "empty",
         noted(&told.notes),
         (Some(("x", 0, 0)), 1, None),
     );
-    let told = told_of(&rt, LOOP, &plain(rt.alloc(), 1), &Silent);
+    let told = told_of(&rt, LOOP, &asked(&rt, rt.alloc(), None, &[], 1), &Silent);
     same(&rt, "spent", noted(&told.notes), (None, 0, Some(3)));
 }
 
 #[test]
 fn words_below_0_are_read_and_written(rt: HostRuntime) {
-    let mut request = asked(
-        &rt,
-        rt.alloc(),
-        "-9223372036854775808\n18446744073709551615\n",
-        1,
-    );
+    let words = "-9223372036854775808\n18446744073709551615\n";
+    let mut request = asked(&rt, rt.alloc(), Some(words), &["y"], 1);
     request.show = streams_as(&rt, rt.alloc(), &["x"]);
     let told = told_of(&rt, COPY, &request, &Silent);
     compare_output(&rt, &told, &[Token::Word(1 << 63), Token::Word(u64::MAX)]);
@@ -244,7 +240,7 @@ impl ProgressReceiver for Listener {
 #[test]
 fn a_run_that_is_cut_tells_what_it_has(rt: HostRuntime) {
     for workers in 1..=2usize {
-        let mut request = plain(rt.alloc(), workers);
+        let mut request = asked(&rt, rt.alloc(), None, &[], workers);
         request.show = streams_as(&rt, rt.alloc(), &["a", "a"]);
         let listener = Listener {
             told: AtomicU64::new(0),
@@ -275,7 +271,7 @@ fn ends<R: Abort>(rt: &R, told: &Told, status: u8, lines: &str) {
 /// wanted too; and nothing is known of what nobody wants.
 #[test]
 fn a_run_runs_dry_beside_an_endless_source(rt: HostRuntime) {
-    let mut request = asked(&rt, rt.alloc(), "1\n2\n", 1);
+    let mut request = asked(&rt, rt.alloc(), Some("1\n2\n"), &["y"], 1);
     let told = told_of(&rt, SUM, &request, &Silent);
     ends(&rt, &told, 0, "\nverdict ran dry\nactive more\n");
     compare_output(&rt, &told, &[Token::Word(8), Token::Word(9)]);
@@ -287,7 +283,7 @@ fn a_run_runs_dry_beside_an_endless_source(rt: HostRuntime) {
     request.show = streams_as(&rt, rt.alloc(), &["k"]);
     let told = told_of(&rt, SUM, &request, &Silent);
     ends(&rt, &told, 6, "\nverdict full\n");
-    let request = with_tokens(&rt, rt.alloc(), "1\n2\n", 2);
+    let request = asked(&rt, rt.alloc(), Some("1\n2\n"), &[], 2);
     let told = told_of(&rt, SUM, &request, &Silent);
     ends(&rt, &told, 6, "\nverdict full\n");
 }
@@ -301,7 +297,7 @@ fn stop_in(fault: &Fault) -> (u8, Option<PresetFault>) {
 
 #[test]
 fn a_line_that_is_no_word_is_told(rt: HostRuntime) {
-    let request = asked(&rt, rt.alloc(), "1\n2x\n3\n", 1);
+    let request = asked(&rt, rt.alloc(), Some("1\n2x\n3\n"), &["y"], 1);
     let mut source = COPY.as_bytes();
     let net: Result<Net<AllKinds>, Fault> = prepare(rt.alloc(), &request, &mut source);
     let Err(fault) = net else {
@@ -319,7 +315,7 @@ fn a_line_that_is_no_word_is_told(rt: HostRuntime) {
 
 #[test]
 fn a_network_is_run_by_two(rt: HostRuntime) {
-    let request = asked(&rt, rt.alloc(), "5\n6\n7\n", 2);
+    let request = asked(&rt, rt.alloc(), Some("5\n6\n7\n"), &["y"], 2);
     let mut source = COPY.as_bytes();
     let net: Result<Net<AllKinds>, Fault> = prepare(rt.alloc(), &request, &mut source);
     let Ok(net) = net else {
@@ -354,10 +350,8 @@ fn name_at(names: &[Text], place: usize) -> Option<&str> {
 }
 
 /// Names an unknown channel second among the files of tokens, the channels to show, or the outputs.
-fn misnamed<R: Abort>(rt: &R, alloc: Global, place: &str) -> Request
-    ensures { result.workers ≡ 1 }
-{
-    let mut request = asked(rt, alloc, "1\n", 1);
+fn misnamed<R: Abort>(rt: &R, alloc: Global, place: &str) -> Request {
+    let mut request = asked(rt, alloc, Some("1\n"), &["y"], 1);
     match place {
         "tokens" => {
             let file = file_of(rt, alloc, "z", "");
@@ -441,7 +435,7 @@ channel = [{ name = "x", from = "src", to = "p" }, { name = "y", from = "p", to 
 #[test]
 fn an_argument_may_be_negative(rt: HostRuntime) {
     let words = "18446744073709551466\n18446744073709551516\n7\n101\n";
-    let request = asked(&rt, rt.alloc(), words, 1);
+    let request = asked(&rt, rt.alloc(), Some(words), &["y"], 1);
     let told = told_of(&rt, WITHIN, &request, &Silent);
     let low = Token::Word(18446744073709551516);
     compare_output(&rt, &told, &[low, low, Token::Word(7), Token::Word(100)]);
@@ -462,7 +456,7 @@ channel = [{ name = "x", from = "src", to = "p" }, { name = "turned", from = "p"
 #[test]
 fn gain_and_offset_take_negative_arguments(rt: HostRuntime) {
     let words = "18446744073709551466\n18446744073709551516\n7\n101\n";
-    let request = asked(&rt, rt.alloc(), words, 1);
+    let request = asked(&rt, rt.alloc(), Some(words), &["y"], 1);
     let told = told_of(&rt, TURNED, &request, &Silent);
     let due = [
         Token::Word(218),

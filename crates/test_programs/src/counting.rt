@@ -1,6 +1,4 @@
 //! How often bodies are called, and bodies that wait for each other, run as the program runs its own.
-ghost use Rattle.std.specs.Prelude.{◌≤◌};
-
 use crate::called::{Calls, called_bodies, called_body};
 use crate::checks::same;
 use kpn_body::Task;
@@ -67,9 +65,7 @@ fn tells_shown<R: Threads + Wait + Clock + Abort + Sync>(
     alloc: Global,
     row: &Shown,
     workers: usize,
-)
-    requires { (1 ≤ workers) × (workers ≤ 16) }
-{
+) {
     let calls = Arc::new(alloc, Calls::none(row.waits)).expect(rt, "no memory");
     let net = network_of(alloc, COUNTER).expect(rt, "no network");
     let bodies = called_bodies(alloc, &net, &calls).expect(rt, "no memory");
@@ -80,12 +76,15 @@ fn tells_shown<R: Threads + Wait + Clock + Abort + Sync>(
     same(rt, row.name, out.as_slice(), row.lines.as_bytes());
 }
 
+/// With no worker one runs the network, and with 17 sixteen do.
 #[test]
 fn nothing_is_run_for_an_unknown_channel(rt: HostRuntime) {
     for row in &SHOWN {
+        tells_shown(&rt, rt.alloc(), row, 0);
         tells_shown(&rt, rt.alloc(), row, 1);
         tells_shown(&rt, rt.alloc(), row, 2);
         tells_shown(&rt, rt.alloc(), row, 16);
+        tells_shown(&rt, rt.alloc(), row, 17);
     }
 }
 

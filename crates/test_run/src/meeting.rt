@@ -1,16 +1,13 @@
-//! Two closures that wait for each other.
-ghost use Rattle.std.specs.Prelude.{◌≡◌, IsSome};
-ghost use Rattle.kpn_standard.specs.Standard.{standard};
-ghost use Rattle.kpn_body.specs.StandardKinds.{signature, Admitted};
-
+//! Two bodies that wait for each other.
 use crate::checks::same;
 use crate::due::{COUNTER_ENDS, Due, READY_CHAIN_ENDS};
 use crate::networks::{Parts, network};
 use crate::runs::{finish_of, run_bodies};
-use kpn_body::{Call, Standard, StandardBody, answer};
-use kpn_net::{Answer, End, Local, Net, Token};
+use kpn_body::{Body, Standard, answer};
+use kpn_net::{Answer, Card, End, Local, Net, Token};
 use kpn_run::Open;
 use std::alloc::Global;
+use std::marker::Model;
 use std::process::Abort;
 use std::rt::Clock;
 use std::sync::atomic::{AtomicU64, Ordering};
@@ -20,7 +17,7 @@ use std::thread::Threads;
 use test_texts::{COUNTER_INTO_SINK, READY_CHAIN};
 
 #[derive(Clone, Copy)]
-struct Meeting {
+pub(crate) struct Meeting {
     text: &'static str,
     workers: usize,
     left: usize,
@@ -28,9 +25,9 @@ struct Meeting {
     times: Times,
 }
 
-/// At which of its calls a closure waits for the other.
+/// At which of its calls a body waits for the other.
 #[derive(Clone, Copy)]
-pub(crate) enum Times {
+enum Times {
     Call(u64),
     /// At the first three calls, and at each multiple of ten thousand.
     Rarely,
@@ -46,13 +43,13 @@ impl Times {
 }
 
 #[derive(Clone, Copy)]
-pub(crate) enum Side {
+enum Side {
     Left,
     Right,
     Neither,
 }
 
-/// How often each closure was called, and how often one saw that the other had come as far.
+/// How often each body was called, and how often one saw that the other had come as far.
 #[derive(Drop)]
 pub(crate) struct Calls {
     left: AtomicU64,
@@ -62,7 +59,7 @@ pub(crate) struct Calls {
 
 /// Counts a call and, if it is one of `times`, waits until the other has come as far. It yields between two
 /// looks. If the other never comes, the test times out after a minute.
-pub(crate) fn meet(times: Times, side: Side, calls: &Calls) {
+fn meet(times: Times, side: Side, calls: &Calls) {
     let (mine, other) = match side {
         Side::Left => (&calls.left, &calls.right),
         Side::Right => (&calls.right, &calls.left),
@@ -106,37 +103,63 @@ fn side_of(meeting: Meeting, process: usize) -> Side {
     }
 }
 
-fn meeting_bodies<R: Abort>(
+/// The body of a standard card. It may wait for another's.
+#[derive(Drop)]
+pub(crate) struct Meeter {
+    card: Card,
+    times: Times,
+    side: Side,
+    calls: Arc<Calls>,
+}
+
+impl Model for Meeter {
+    ghost use Rattle.std.specs.Prelude.{IsSome};
+    ghost use Rattle.kpn_model.specs.declared.kinds.Card.{Card};
+    ghost use Rattle.kpn_body.specs.StandardKinds.{signature};
+
+    ghost Value = { Card };
+
+    ghost view = { λ b. b.card };
+
+    ghost invariant = { λ b. IsSome (signature b.card) };
+}
+
+impl Body for Meeter {
+    type Kinds = Standard;
+
+    ghost card = { λ body. body };
+
+    fn card(&self) -> Card {
+        self.card
+    }
+
+    fn answer(&self, local: Local, last: Option<Token>) -> Answer {
+        meet(self.times, self.side, &self.calls);
+        answer(self.card, local, last)
+    }
+}
+
+pub(crate) fn meeters<R: Abort>(
     rt: &R,
     alloc: Global,
     net: &Net<Standard>,
     meeting: Meeting,
     calls: &Arc<Calls>,
-) -> Vec<StandardBody> {
+) -> Vec<Meeter> {
     let mut bodies = Vec::new(alloc);
     for process in 0..net.processes() {
-        let card = net.card(process);
-        let (times, side) = (meeting.times, side_of(meeting, process));
-        let calls = Arc::try_clone(calls).expect(rt, "no memory");
-        let call: Call = Box::new(
-            alloc,
-            move |local: Local, last: Option<Token>| -> Answer
-                requires signed { IsSome (signature card) }
-                requires admitted { Admitted card local last }
-                ensures { result ≡ standard.answer card local last }
-            {
-                meet(times, side, &calls);
-                answer(card, local, last)
-            },
-        )
-        .expect(rt, "no memory");
-        let body = StandardBody::new(card, call);
+        let body = Meeter {
+            card: net.card(process),
+            times: meeting.times,
+            side: side_of(meeting, process),
+            calls: Arc::try_clone(calls).expect(rt, "no memory"),
+        };
         bodies.push(body).expect(rt, "no memory");
     }
     bodies
 }
 
-/// Runs the network. The counts of calls decide whether the closures wait, not what they answer.
+/// Runs the network. The counts of calls decide whether the bodies wait, not what they answer.
 fn meets<R: Threads + Wait + Clock + Abort + Sync>(
     rt: &R,
     alloc: Global,
@@ -145,12 +168,12 @@ fn meets<R: Threads + Wait + Clock + Abort + Sync>(
 ) {
     let calls = Arc::new(alloc, Calls::new()).expect(rt, "no memory");
     let net = network(rt, alloc, meeting.text);
-    let bodies = meeting_bodies(rt, alloc, &net, meeting, &calls);
+    let bodies = meeters(rt, alloc, &net, meeting, &calls);
     run_bodies(rt, alloc, Parts { net, bodies }, meeting.workers, due);
     same(rt, "seen", calls.seen(), 2);
 }
 
-static COUNTER_MEETS: Meeting = Meeting {
+pub(crate) static COUNTER_MEETS: Meeting = Meeting {
     text: COUNTER_INTO_SINK,
     workers: 2,
     left: 0,
@@ -236,7 +259,7 @@ fn a_spare_worker_works_again(rt: HostRuntime) {
     let alloc = rt.alloc();
     let calls = Arc::new(alloc, Calls::new()).expect(&rt, "no memory");
     let net = network(&rt, alloc, SPARE_MEETS.text);
-    let bodies = meeting_bodies(&rt, alloc, &net, SPARE_MEETS, &calls);
+    let bodies = meeters(&rt, alloc, &net, SPARE_MEETS, &calls);
     let finish = finish_of(
         &rt,
         alloc,

@@ -1,6 +1,4 @@
 //! Networks of the standard kinds, with stateless bodies.
-//!
-//! Unlike those of `meeting`, their type contains no closure, so that a test's code can name its monitor.
 use crate::checks::same;
 use kpn_body::{Body, Standard};
 use kpn_compute::{CardBody, bodies_of};

@@ -1,87 +1,16 @@
 //! Two bodies that wait for each other, in watched runs and in runs by a crew.
 use crate::checks::same;
 use crate::library::watched::{Witness, compare_counter, counter, often};
-use crate::meeting::{Calls, Side, Times, meet};
-use kpn_body::{Body, answer};
-use kpn_model::{Answer, Card, Kinds, Local, Token};
-use kpn_net::Net;
+use crate::meeting::{COUNTER_MEETS, Calls, Meeter, meeters};
 use kpn_observe::{Crew, CrewSeat, EntryLedger, Monitor, WatchedRun, run_by_crew, run_watched};
 use kpn_run::Open;
 use kpn_standard::Standard;
 use std::alloc::Global;
-use std::marker::Model;
 use std::process::Abort;
 use std::rt::Clock;
 use std::sync::ledger::Ledger;
 use std::sync::{Arc, Wait};
 use std::thread::Threads;
-
-/// The counter's body or the sink's; each waits for the other at its first call.
-#[derive(Drop)]
-struct Meeter {
-    card: Card,
-    side: Side,
-    calls: Arc<Calls>,
-}
-
-impl Model for Meeter {
-    ghost use Rattle.std.specs.Prelude.{IsSome};
-    ghost use Rattle.kpn_model.specs.declared.kinds.Card.{Card};
-    ghost use Rattle.kpn_body.specs.StandardKinds.{signature};
-
-    ghost Value = { Card };
-
-    ghost view = { λ b. b.card };
-
-    ghost invariant = { λ b. IsSome (signature b.card) };
-}
-
-impl Body for Meeter {
-    type Kinds = Standard;
-
-    ghost card = { λ body. body };
-
-    fn card(&self) -> Card {
-        self.card
-    }
-
-    fn answer(&self, local: Local, last: Option<Token>) -> Answer {
-        meet(Times::Call(1), self.side, &self.calls);
-        answer(self.card, local, last)
-    }
-}
-
-fn meeters<R: Abort>(
-    rt: &R,
-    alloc: Global,
-    net: &Net<Standard>,
-    calls: &Arc<Calls>,
-) -> Vec<Meeter> {
-    let mut bodies = Vec::new(alloc);
-    for process in 0..net.processes() {
-        let side = if process == 0 {
-            Side::Left
-        } else {
-            Side::Right
-        };
-        push_meeter(rt, &mut bodies, net.card(process), side, calls);
-    }
-    bodies
-}
-
-fn push_meeter<R: Abort>(
-    rt: &R,
-    bodies: &mut Vec<Meeter>,
-    card: Card,
-    side: Side,
-    calls: &Arc<Calls>,
-) {
-    if Standard::signature(&card).is_some() {
-        let calls = Arc::try_clone(calls).expect(rt, "memory");
-        let body = Meeter { card, side, calls };
-        bodies.push(body).expect(rt, "memory");
-    }
-}
 
 fn watched<R: Wait + Clock + Threads + Sync + Abort>(
     rt: &R,
@@ -90,7 +19,7 @@ fn watched<R: Wait + Clock + Threads + Sync + Abort>(
     calls: &Arc<Calls>,
 ) -> WatchedRun<Standard> {
     let net = counter(rt, alloc, 3);
-    let bodies = meeters(rt, alloc, &net, calls);
+    let bodies = meeters(rt, alloc, &net, COUNTER_MEETS, calls);
     let witness = Witness::new(u64::MAX);
     let ran = run_watched(rt, alloc, net, bodies, workers, &Open, often(), &witness);
     let Ok(run) = ran else {
@@ -121,7 +50,7 @@ fn crewed<R: Wait + Threads + Sync + Abort>(
     calls: &Arc<Calls>,
 ) -> WatchedRun<Standard> {
     let net = counter(rt, alloc, 3);
-    let bodies = meeters(rt, alloc, &net, calls);
+    let bodies = meeters(rt, alloc, &net, COUNTER_MEETS, calls);
     let Ok(run) = run_by_crew(rt, alloc, net, bodies, seats, &ToTheEnd { rt }) else {
         panic!(rt; "no run");
     };

@@ -72,22 +72,23 @@ fn machine_again<B: Body, R: Abort>(
     }
 }
 
-/// If out of memory, retries with the machine that the error returned.
+/// Opens the machine and the monitor of it. If out of memory, retries with the machine that the error returned.
 fn opening_again<B: Body, R: Abort>(
     rt: &R,
     alloc: Global,
-    machine: Machine<B>,
-) -> (Opening<B>, Refused)
-    requires { IsFresh machine }
-{
+    net: Net<B::Kinds>,
+    bodies: Vec<B>,
+    processes: usize,
+) -> (Opening<B>, Refused) {
+    let (machine, first) = machine_again(rt, alloc, net, bodies, processes);
     match Opening::new(alloc, machine) {
-        Ok(opening) => (opening, Refused::Nothing),
+        Ok(opening) => (opening, first),
         Err(machine) => {
             same(rt, "fresh", machine.is_fresh(), true);
             let Ok(opening) = Opening::new(alloc, machine) else {
                 panic!(rt; "no opening");
             };
-            (opening, Refused::Opening)
+            (opening, first.or(Refused::Opening))
         }
     }
 }
@@ -186,10 +187,9 @@ fn open_refused<B: Body, R: Wait + Abort>(
     bodies: Vec<B>,
     due: Shown,
 ) -> Result<Refused, AllocError> {
-    let (machine, first) = machine_again(rt, alloc, net, bodies, due.0.processes);
-    let (opening, second) = opening_again(rt, alloc, machine);
-    let third = work_to_the_end::<B, Brand, Brand, R>(rt, alloc, opening, due)?;
-    Ok(first.or(second).or(third))
+    let (opening, first) = opening_again(rt, alloc, net, bodies, due.0.processes);
+    let second = work_to_the_end::<B, Brand, Brand, R>(rt, alloc, opening, due)?;
+    Ok(first.or(second))
 }
 
 /// Returns the word for what failed.

@@ -153,14 +153,14 @@ fn two_opened<B: Body, E: EntryLedger, O: Ledger, F: EntryLedger, P: Ledger, R: 
     }
 }
 
-/// Returns whether neither number ever fell.
-fn looks<B: Body, E: EntryLedger, O: Ledger>(
+/// Returns whether neither number ever fell, and the watcher that looked.
+fn looks<B: Body, E: EntryLedger, O: Ledger, R: Wait + Abort>(
+    rt: &R,
     monitor: &Monitor<B, E, O>,
-    mut watcher: Watcher,
 ) -> (bool, Watcher)
-    requires { watcher.board ≡ E.board }
     ensures { result.1.board ≡ E.board }
 {
+    let mut watcher = watcher_of(rt, monitor);
     let mut rising = true;
     let mut last = monitor.look(&mut watcher);
     for _ in 0..1000 {
@@ -196,15 +196,11 @@ fn watched<
     R: Threads + Wait + Abort + Sync,
 >(rt: &R, alloc: Global, monitor: Monitor<B, E, O>, seat: Seat<E, O>) {
     let (one, other) = two_seats(rt, seat);
-    let first = watcher_of(rt, &monitor);
     let mut second = watcher_of(rt, &monitor);
     same(rt, "seen", monitor.look(&mut second), NOTHING);
     let ((rising, mut first), (one, other)) = join(
         rt,
-        || -> (bool, Watcher)
-            requires { first.board ≡ E.board }
-            ensures { result.1.board ≡ E.board }
-        { looks(&monitor, first) },
+        || looks(rt, &monitor),
         || work_in_two(rt, &monitor, one, other),
     );
     same(

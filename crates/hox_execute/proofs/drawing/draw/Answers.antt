@@ -1,18 +1,18 @@
 -- The picture is written, or what is asked for is refused.
 use Rattle.std.proofs.Common.{◌≡◌, List, ℕ, Bool, [], is_some, map, Ok, Err, string_bytes, refl, ◌∙◌, ◌≤◌, ap, rules, subst, sym}
 use Rattle.kpn_model.specs.Network.{family_of}
-use Rattle.hox_network.specs.Preparing.{GivesNet, HasFewWorkers}
+use Rattle.hox_network.specs.Preparing.{GivesNet}
 use Rattle.hox_draw.specs.Drawing.{GivesPicture}
 use Rattle.hox_files.specs.Requests.{Want, want_of}
 use Rattle.hox_execute.specs.Program.{want_of_draw}
 use Rattle.hox_execute.specs.Commands.{Comes, GivesDrawing, HasDrawn, IsStop}
-use Rattle.hox_execute.proofs.Drawn.{drawn_text, few_or_one}
+use Rattle.hox_execute.proofs.Drawn.{drawn_text}
 use Rattle.hox_execute.proofs.Loaded.{file_refused, file_serves_on}
 use Rattle.hox_execute.proofs.Unasked.{stops_unasked}
 use Rattle.hox_execute.proofs.drawing.draw.Goals as goal
 
-pub returns-in-Ok-clause-done : goal.returns-in-Ok-clause-done
-returns-in-Ok-clause-done g c =
+pub returns-in-Ok : goal.returns-in-Ok
+returns-in-Ok g c =
     let same : want_of c.network_in-wanted.result ≡ want_of_draw c.args.choice.now = search rules in
     let kinds = family_of g.K.Kinds.start g.K.Kinds.answer_of in
     let named = g.K.Kinds.named in
@@ -36,12 +36,16 @@ returns-in-Ok-clause-done g c =
       };
       writes = rw text at c.write_text.ensures;
     } in
-    subst (λ w. Done w (map (λ t. t.now) c.args.choice.now.tokens.items) (is_some c.args.choice.now.workers)) same
-    (subst (λ b. Done want (map (λ t. t.now) c.args.choice.now.tokens.items) b) c.is_run.ensures
-    (subst (λ l. Done want (map (λ t. t.now) l) is_run) c.as_slice-2.ensures.value done))
+    record {
+      done = subst (λ w. Done w (map (λ t. t.now) c.args.choice.now.tokens.items) (is_some c.args.choice.now.workers)) same
+          (subst (λ b. Done want (map (λ t. t.now) c.args.choice.now.tokens.items) b) c.is_run.ensures
+          (subst (λ l. Done want (map (λ t. t.now) l) is_run) c.as_slice-2.ensures.value done));
+      stop = tt;
+      untouched = tt;
+    }
 
-pub returns-clause-stop : goal.returns-clause-stop
-returns-clause-stop g c =
+pub returns : goal.returns
+returns g c =
     let same : want_of c.network_in-wanted.result ≡ want_of_draw c.args.choice.now = search rules in
     let request = c.in_ok-asked.asked.request in
     let Stopped : Want → List (List ℕ) → Type 0 = λ want tokens. (c.network_in-wanted.result.file.now ≡ want.file) × Comes g.K.Kinds.named g.K.Kinds.signature (g.S.FileSystem.contents c.args.files.now) (g.S.FileSystem.clash c.args.files.now) want tokens [] GivesNet c.in_ok-asked.asked (Err c.in-Err.field-0.fault) in
@@ -54,21 +58,20 @@ returns-clause-stop g c =
         serves = file_refused (g.S.FileSystem.contents c.args.files.now) g.K.Kinds.named g.K.Kinds.signature c.network_in-wanted.result.file.now _ (GivesNet request) c.in-Err.field-0.fault (λ net h. h) c.in-Err.ensures;
       },
     ) in
-    subst (λ w. Stopped w (map (λ t. t.now) c.args.choice.now.tokens.items)) same (subst (λ l. Stopped want (map (λ t. t.now) l)) c.as_slice-2.ensures.value stopped)
+    record {
+      done = tt;
+      stop = subst (λ w. Stopped w (map (λ t. t.now) c.args.choice.now.tokens.items)) same (subst (λ l. Stopped want (map (λ t. t.now) l)) c.as_slice-2.ensures.value stopped);
+      untouched = refl;
+    }
 
-pub drawn-requires : goal.drawn-requires
-drawn-requires g c =
-    let same : want_of c.network_in-wanted.result ≡ want_of_draw c.args.choice.now = search rules in
-    let few : HasFewWorkers c.in_ok-asked.asked.request =
-    subst (λ n. (1 ≤ n) × (n ≤ 16)) (sym (c.in_ok-asked.ensures.ok.request.rest.workers ∙ ap (λ (w : Want). w.workers) same)) (few_or_one c.args.choice.now.workers c.requires) in
-    search (rules, few)
-
-pub returns-in_err-asked-clause-stop : goal.returns-in_err-asked-clause-stop
-returns-in_err-asked-clause-stop g c =
+pub returns-in_err-asked : goal.returns-in_err-asked
+returns-in_err-asked g c =
     let same : want_of c.network_in-wanted.result ≡ want_of_draw c.args.choice.now = search rules in
     let stop = c.in_err-asked.field-0.0 in
     let is : c.from_residual.result ≡ Err stop = search rules in
     let Stopped : Want → List (List ℕ) → Type 0 = λ want tokens. IsStop g.K.Kinds.named g.K.Kinds.signature (g.S.FileSystem.contents c.args.files.now) (g.S.FileSystem.clash c.args.files.now) want tokens [] stop in
     let want = want_of c.network_in-wanted.result in
     let stopped : Stopped want (map (λ t. t.now) c.as_slice-2.result.now) = stops_unasked g.K.Kinds.named g.K.Kinds.signature (g.S.FileSystem.contents c.args.files.now) (g.S.FileSystem.clash c.args.files.now) want (map (λ t. t.now) c.as_slice-2.result.now) [] stop c.in_err-asked.ensures.fault in
-    rw is (subst (λ w. Stopped w (map (λ t. t.now) c.args.choice.now.tokens.items)) same (subst (λ l. Stopped want (map (λ t. t.now) l)) c.as_slice-2.ensures.value stopped))
+    let stops : Stopped (want_of_draw c.args.choice.now) (map (λ t. t.now) c.args.choice.now.tokens.items) =
+    subst (λ w. Stopped w (map (λ t. t.now) c.args.choice.now.tokens.items)) same (subst (λ l. Stopped want (map (λ t. t.now) l)) c.as_slice-2.ensures.value stopped) in
+    rw is (record { done = tt; stop = stops; untouched = refl })

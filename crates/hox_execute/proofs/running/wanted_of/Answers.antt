@@ -2,8 +2,5 @@
 use Rattle.std.proofs.Common.{rules}
 use Rattle.hox_execute.proofs.running.wanted_of.Goals as goal
 
-pub returns-clause-want : goal.returns-clause-want
-returns-clause-want c = search rules
-
-pub returns-clause-workers : goal.returns-clause-workers
-returns-clause-workers c = search rules
+pub returns : goal.returns
+returns c = search rules

@@ -1,6 +1,5 @@
 -- The sources and sinks are the files that were opened.
-use Rattle.std.proofs.Common.{◌≡◌, ap, map, subst, ◌∙◌}
-use Rattle.std.proofs.lemmas.Result.{IfOk-weaker}
+use Rattle.std.proofs.Common.{◌≡◌, ap, map, refl, subst, ◌∙◌}
 use Rattle.std.specs.List.{AllZip, filter}
 use Rattle.kpn_model.specs.Network.{family_of}
 use Rattle.hox_stream.specs.Views.{outs}
@@ -11,8 +10,8 @@ use Rattle.hox_execute.specs.Streaming.{IsCreated, IsOpened, IsTabled, RunsBetwe
 use Rattle.hox_execute.proofs.Sources.{all_created, all_opened, all_tabled, same_outs, same_rate, same_sources, seen_in, seen_table}
 use Rattle.hox_execute.proofs.streaming.run_between.Goals as goal
 
-pub returns-clause-done : goal.returns-clause-done
-returns-clause-done g c =
+pub returns-in-Ok-serve-clause-done : goal.returns-in-Ok-serve-clause-done
+returns-in-Ok-serve-clause-done g c =
     let kinds = family_of g.F.Kinds.start g.F.Kinds.answer_of in
     let contents = g.S.FileSystem.contents c.args.files.now in
     let seen = g.S.Output.Sink.seen in
@@ -33,9 +32,8 @@ returns-clause-done g c =
     let created = subst (λ r. AllZip (IsCreated seen r) alone sinks) rate written in
     let rows = subst (λ l. AllZip (IsTabled seen c.rate_of-rate.result) (groups l) tables) c.as_slice-4.ensures.value c.in_ok-tables.ensures.ok in
     let tabled = subst (λ r. AllZip (IsTabled seen r) beside tables) rate rows in
-    IfOk-weaker c.run_opened.result _ (λ s. (s.ends ≡ ends) × RunsBetween kinds contents ends start s.served.flow s.served.inlets.items (outs s.served.outlets.items s.served.tables.items) s.served.finish)
-    (λ s h. (
-      h.0,
+    let serves = rw c.in-Ok.ensures at c.in-Ok-serve.ensures in (
+      refl,
       record {
         openings = map (opening_of left) sources;
         opened = all_opened left failed contents ends.inputs.items sources opened;
@@ -43,7 +41,6 @@ returns-clause-done g c =
         created = all_created seen (rate_in (map (opening_of left) sources)) alone sinks created;
         tables = map (seen_table seen) tables;
         tabled = all_tabled seen (rate_in (map (opening_of left) sources)) beside tables tabled;
-        serves = rw (ins, written_to) at h.1;
+        serves = rw (ins, written_to) at serves;
       },
-    ))
-    c.run_opened.ensures.done
+    )

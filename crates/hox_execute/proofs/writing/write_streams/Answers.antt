@@ -19,6 +19,8 @@ loop-k-preserved g c =
       steady = λ s. let was = l.invariant.steady s in let now = next.ensures.steady was.1 in (now.0 ∙ was.0, now.1);
     }
 
-pub returns-clause-tries : goal.returns-clause-tries
-returns-clause-tries g c =
-    tries_all c.args.outputs.now c.args.texts.now c.loop-k.k (omega arith) c.loop-k.are_written (g.S.FileSystem.effects c.args.files.now) (g.S.FileSystem.effects c.loop-k.files) c.loop-k.invariant.tries
+pub returns : goal.returns
+returns g c = record {
+  tries = tries_all c.args.outputs.now c.args.texts.now c.loop-k.k (omega arith) c.loop-k.are_written (g.S.FileSystem.effects c.args.files.now) (g.S.FileSystem.effects c.loop-k.files) c.loop-k.invariant.tries;
+  steady = c.loop-k.invariant.steady;
+}

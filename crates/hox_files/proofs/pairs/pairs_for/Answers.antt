@@ -1,30 +1,22 @@
 -- One pair more.
-use Rattle.std.proofs.Common.{◌≡◌, ◌<◌, ◌≤◌, ◌+◌, ◌++◌, ◌∷◌, [], List, drop, get_or, length, ap, sym, subst, arith, rules}
+use Rattle.std.proofs.Common.{◌≡◌, ◌≤◌, ◌++◌, ◌∷◌, [], if◌then◌else◌, Bool, true, false, List, Result, Ok, Err, is_err, is_ok, drop, length, ap, refl, sym, ◌∙◌, arith}
 use Rattle.std.proofs.lemmas.List.{length-map}
-use Rattle.hox_files.specs.declared.pairs.Pair.{Pair}
-use Rattle.hox_files.specs.Pairs.{IsPair, parts_from, part_at}
+use Rattle.hox_files.specs.Pairs.{IsPair, parts_from}
 use Rattle.hox_files.proofs.Firsts.{texts_of}
-use Rattle.hox_files.proofs.Parted.{Completes, completed, completes_more, completes_none, nothing_left, part_left}
+use Rattle.hox_files.proofs.Parted.{completed, completes_none, nothing_left, pair_more}
 use Rattle.hox_files.proofs.pairs.pairs_for.Goals as goal
+
+pushed : {X E A : Type 0} (r : Result X E) (before after : List A) (x : A) → after ≡ (if is_ok r then before ++ x ∷ [] else before) → is_err r ≡ false → after ≡ before ++ x ∷ []
+pushed (Ok y) before after x is ok = is
+pushed (Err e) before after x is ok = let bad : true ≡ false = ok in cc
 
 pub loop-place-init : goal.loop-place-init
 loop-place-init c = completes_none (IsPair (texts_of c.args.formats.texts.now) (texts_of c.args.formats.unsigned.now)) (parts_from c.args.file.now (length c.args.names.now) 0 (texts_of c.args.names.now)) c.new-pairs.result.items c.new-pairs.ensures.items
 
 pub loop-place-preserved : goal.loop-place-preserved
 loop-place-preserved c =
-    let R = IsPair (texts_of c.args.formats.texts.now) (texts_of c.args.formats.unsigned.now) in
-    let file = c.args.file.now in
-    let names = texts_of c.args.names.now in
-    let count = length c.args.names.now in
-    let k = c.loop-place.place in
-    let within : k < length names = omega (arith, length-map c.args.names.now (λ n. n.now), c.loop-place-test.true) in
-    let pair : Pair = c.in-Ok.pair in
-    let pushed : c.push.new.self.items ≡ c.loop-place.pairs.items ++ pair ∷ [] = search rules in
-    let whole = parts_from file count 0 names in
-    let left = parts_from file count (k + 1) (drop (k + 1) names) in
-    let first = part_at file count k (get_or names k []) ∷ [] in
-    let more = completes_more R whole c.loop-place.pairs.items (pair ∷ []) first left (parts_from file count k (drop k names)) c.loop-place.invariant (part_left file count names k within) (c.in-Ok.ensures.ok, tt) in
-    subst (λ (items : List Pair). Completes R whole items left) (sym pushed) more
+    pair_more (texts_of c.args.formats.texts.now) (texts_of c.args.formats.unsigned.now) c.args.file.now c.args.names.now c.loop-place.place _ _ c.loop-place.pairs.items c.push.new.self.items c.loop-place-test.true
+    (pushed c.push.result _ _ _ c.push.ensures.items (sym c.is_err.ensures.value ∙ c.if-is_err.false)) refl refl refl refl c.in-Ok.ensures.ok c.loop-place.invariant
 
 pub returns-clause-each : goal.returns-clause-each
 returns-clause-each c =

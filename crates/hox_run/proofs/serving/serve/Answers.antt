@@ -3,10 +3,14 @@ use Rattle.kpn_model.specs.Network.{family_of}
 use Rattle.hox_run.proofs.Served.{refused, told_of}
 use Rattle.hox_run.proofs.serving.serve.Goals as goal
 
-pub returns-in-Ok-clause-served : goal.returns-in-Ok-clause-served
-returns-in-Ok-clause-served g c =
-    told_of (family_of g.K.Kinds.start g.K.Kinds.answer_of) c.args.request.now c.in-Ok.net _ c.in-Ok.ensures.served c.serve_prepared.ensures
+pub returns-in-Ok : goal.returns-in-Ok
+returns-in-Ok g c = record {
+  served = told_of (family_of g.K.Kinds.start g.K.Kinds.answer_of) c.args.request.now c.in-Ok.net _ c.in-Ok.ensures.served c.serve_prepared.ensures;
+  taken = c.in-Ok.ensures.taken;
+}
 
-pub returns-in-Err-clause-served : goal.returns-in-Err-clause-served
-returns-in-Err-clause-served g c =
-    refused (family_of g.K.Kinds.start g.K.Kinds.answer_of) c.args.request.now c.in-Err.fault c.in-Err.ensures.served
+pub returns-in-Err : goal.returns-in-Err
+returns-in-Err g c = record {
+  served = refused (family_of g.K.Kinds.start g.K.Kinds.answer_of) c.args.request.now c.in-Err.fault c.in-Err.ensures.served;
+  taken = c.in-Err.ensures.taken;
+}

@@ -20,6 +20,6 @@ returns g c = record {
       let open_input : is_among c.args.flow.now.unended c.args.inlet.now.channel ≡ true = subst (λ n. is_among c.args.flow.now.unended n ≡ true) c.channel-channel.ensures (sym c.is_input.ensures ∙ c.if-not-is_input.false) in
       let some : c.gather-count.result ≤ length c.gather-count.new.tokens = omega (arith, c.gather-count.ensures.few, c.gather-count.auto.tokens) in
       pours_batch (family_of g.B.Kinds.Kinds.start g.B.Kinds.Kinds.answer_of) _ _ _ _ c.gather-count.new.tokens c.gather-count.new.ends c.gather-count.result c.feed_all-fed.result c.end_of.result c.feed_all-fed.ensures.same (rw (c.kept.ensures.layout, c.kept.ensures.sort, c.kept.ensures.bytes) at c.gather-count.ensures.gathers) some
-      c.feed_all-fed.ensures.few (rw c.channel-channel.ensures at c.feed_all-fed.ensures.fed) (c.assure_one_run.ensures.unended c.args.inlet.now.channel open_input) c.end_of.ensures c.pass_all.ensures;
-  unread = not_read_by _ _ c.end_of.result c.feed_all-fed.result c.pass_all.ensures;
+      c.feed_all-fed.ensures.few (rw c.channel-channel.ensures at c.feed_all-fed.ensures.fed) (c.assure_one_run.ensures.unended c.args.inlet.now.channel open_input) c.end_of.ensures c.pass.ensures;
+  unread = not_read_by _ _ c.end_of.result c.feed_all-fed.result c.pass.ensures;
 }

@@ -16,7 +16,7 @@ returns g c = record {
   pours = record {
     same = same_net_of _ _ c.feed_said.ensures.same;
     tokens = listed c.args.said;
-    takes = takes_record _ _ c.args.used c.args.said c.requires.next c.requires.at_end c.pass.ensures;
+    takes = takes_record _ _ c.args.used c.args.said c.requires.next c.requires.at_end (rw c.count_of.ensures at c.pass.ensures);
     flows = rw c.channel.ensures at (c.if-not-feed_said.ensures.flows refl);
     at_ends = rw c.channel.ensures at (c.if-not-feed_said.ensures.at_ends refl);
   };

@@ -24,10 +24,22 @@ loop-k-preserved g c =
       | else-is_err w ↦ subst (λ (f : Option ℕ). EndsTables c.args.tables.now (set outs c.loop-k.k q) (c.loop-k.k + 1) f) (sym w.failed-is) (ends_next c.args.tables.now outs c.loop-k.k _ q within at c.end.ensures.ends c.loop-k.failed c.loop-k.invariant)
     ]
 
-pub returns-in-Some-clause-finish : goal.returns-in-Some-clause-finish
-returns-in-Some-clause-finish g c =
-    let bad = subst (λ (o : Option ℕ). IfSome o (λ k. (k < c.loop-k.k) × (c.loop-k.k ≤ length c.loop-k.tables) × ((table_at c.loop-k.tables k).has_failed ≡ true))) c.in-Some.is c.loop-k.invariant.failed_at in
-    λ kinds s ins sinks first. c.finish_of.ensures kinds s ins sinks c.loop-k.tables first (omega (arith, bad.0, bad.1)) bad.2
+pub returns-in-Some : goal.returns-in-Some
+returns-in-Some g c =
+    let ended = c.loop-k.invariant in
+    let bad = subst (λ (o : Option ℕ). IfSome o (λ k. (k < c.loop-k.k) × (c.loop-k.k ≤ length c.loop-k.tables) × ((table_at c.loop-k.tables k).has_failed ≡ true))) c.in-Some.is ended.failed_at in
+    record {
+      ends = (ended.as_many, λ k h. let long = ended.as_many in ended.ended k (omega (arith, h, long, c.loop-k-test.false)));
+      finish = λ kinds s ins sinks first. c.finish_of.ensures kinds s ins sinks c.loop-k.tables first (omega (arith, bad.0, bad.1)) bad.2;
+    }
+
+pub returns-in-None : goal.returns-in-None
+returns-in-None g c =
+    let ended = c.loop-k.invariant in
+    record {
+      ends = (ended.as_many, λ k h. let long = ended.as_many in ended.ended k (omega (arith, h, long, c.loop-k-test.false)));
+      finish = tt;
+    }
 
 pub offset_bounds-tables-k : goal.offset_bounds-tables-k
 offset_bounds-tables-k g c = grind (arith, common_steps)

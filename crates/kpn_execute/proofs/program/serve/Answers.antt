@@ -12,8 +12,8 @@ returns-in-Err-clause-served g c = (
   c.in_ok-choice.ensures.ok,
   record {
     loaded = Err c.in-Err.refused.fault;
-    loads = c.in-Err.ensures.loads;
-    failed = c.in-Err.ensures.failed;
+    loads = c.in-Err.ensures.loaded.loads;
+    failed = c.in-Err.ensures.loaded.failed;
     fault_is = c.serve_refused.ensures.fault;
     writes = written c.serve_refused.ensures.says (refl, refl);
   },
@@ -21,4 +21,4 @@ returns-in-Err-clause-served g c = (
 
 pub returns-clause-served : goal.returns-clause-served
 returns-clause-served g c =
-    (c.in_ok-choice.choice, c.in_ok-choice.ensures.ok, record { loaded = Ok c.in-Ok.net; loads = c.in-Ok.ensures.loads; failed = c.in-Ok.ensures.failed; fault_is = refl; writes = c.serve_net.ensures })
+    (c.in_ok-choice.choice, c.in_ok-choice.ensures.ok, record { loaded = Ok c.in-Ok.net; loads = c.in-Ok.ensures.loaded.loads; failed = c.in-Ok.ensures.loaded.failed; fault_is = refl; writes = c.serve_net.ensures })

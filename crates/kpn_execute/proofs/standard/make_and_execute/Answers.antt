@@ -5,17 +5,16 @@ use Rattle.kpn_execute.proofs.standard.make_and_execute.Goals as goal
 
 pub loop-process-preserved : goal.loop-process-preserved
 loop-process-preserved g c =
-    let card_is : c.match-kind_of.body.card ≡ c.signed_card-card.result = grind arith in
+    let card_is : c.match-kind.body.card ≡ c.signed_card-kind.result.0 = grind arith in
     record {
-      first = one_more (λ b. b.card) _ _ _ _ c.match-kind_of.body c.loop-process.invariant.first c.in_ok-push.ensures.items (c.signed_card-card.ensures.is ∙ ap (λ x. Some x) (sym card_is));
+      first = one_more (λ b. b.card) _ _ _ _ c.match-kind.body c.loop-process.invariant.first c.in_ok-push.ensures.items (c.signed_card-kind.ensures.card ∙ ap (λ x. Some x) (sym card_is));
       same = c.loop-process.invariant.same;
     }
 
 pub unreachable-requires : goal.unreachable-requires
 unreachable-requires g c =
     let none = sym c.loop-process.invariant.same ∙ c.in_default.is in
-    let some = rw none at c.requires.some in
-    cc
+    absurd (rw none at c.requires.cards)
 
 pub execute-requires-clause-cards : goal.execute-requires-clause-cards
 execute-requires-clause-cards g c κs within =

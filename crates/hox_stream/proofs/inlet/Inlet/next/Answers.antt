@@ -3,5 +3,5 @@ use Rattle.std.proofs.Common.{arith}
 use Rattle.std.proofs.lemmas.Grind.{common_steps}
 use Rattle.hox_stream.proofs.inlet.Inlet.next.Goals as goal
 
-pub returns-clause-next : goal.returns-clause-next
-returns-clause-next g c = grind (arith, common_steps)
+pub returns : goal.returns
+returns g c = record { next = grind (arith, common_steps); at_end = grind (arith, common_steps) }

@@ -3,11 +3,8 @@ use Rattle.std.proofs.Common.{arith}
 use Rattle.std.proofs.lemmas.Grind.{common_steps}
 use Rattle.hox_stream.proofs.outlet.Outlet.flush.Goals as goal
 
-pub returns-clause-writes : goal.returns-clause-writes
-returns-clause-writes g c = grind (arith, common_steps)
+pub returns : goal.returns
+returns g c = record { writes = grind (arith, common_steps); written = grind (arith, common_steps); still = grind (arith, common_steps); failed = tt }
 
-pub returns-then-is_err-clause-writes : goal.returns-then-is_err-clause-writes
-returns-then-is_err-clause-writes g c = grind (arith, common_steps)
-
-pub returns-then-is_err-clause-failed : goal.returns-then-is_err-clause-failed
-returns-then-is_err-clause-failed g c = grind (arith, common_steps)
+pub returns-then-is_err : goal.returns-then-is_err
+returns-then-is_err g c = record { writes = grind (arith, common_steps); written = grind (arith, common_steps); still = grind (arith, common_steps); failed = grind (arith, common_steps) }

@@ -1,10 +1,7 @@
--- Found without an answer too, after a longer search.
+-- The tables are behind the sinks.
 use Rattle.std.proofs.Common.{arith}
 use Rattle.std.proofs.lemmas.Grind.{common_steps}
 use Rattle.hox_stream.proofs.telling.Outs.end.Goals as goal
 
-pub returns-clause-ends : goal.returns-clause-ends
-returns-clause-ends g c = grind (arith, common_steps)
-
-pub returns-clause-finish : goal.returns-clause-finish
-returns-clause-finish g c = grind (arith, common_steps)
+pub returns : goal.returns
+returns g c = record { sinks = grind (arith, common_steps); ends = grind (arith, common_steps); finish = grind (arith, common_steps) }

@@ -2,7 +2,7 @@
 use Rattle.std.proofs.Common.{rules, ◌≡◌, ◌++◌, ◌∷◌, [], length, arith}
 use Rattle.hox_draw.specs.Titles.{IsTitleOf}
 use Rattle.hox_draw.proofs.Titled.{each_more}
-use Rattle.hox_draw.proofs.titles.titles_in.Goals as goal
+use Rattle.hox_draw.proofs.titles.titles_of.Goals as goal
 
 pub loop-process-preserved : goal.loop-process-preserved
 loop-process-preserved g c =
