@@ -2,8 +2,8 @@
 use crate::piped::{CardFlow, Piped, Port};
 use anyhow::{Result, bail};
 use kpn_body::Standard;
-use kpn_compute::bodies_of;
-use kpn_flow::Flow;
+use kpn_compute::{CardBody, bodies_of};
+use kpn_flow::{Flow, stops_at_once};
 use kpn_net::{Check, Net, NetFault, read_sketch};
 use std::alloc::Global;
 use std::io::BufRead;
@@ -121,8 +121,25 @@ fn channels_of(alloc: Global, ports: &Ports) -> Result<Channels> {
 fn flow_of(alloc: Global, net: Net<Standard>, channels: Channels) -> Result<CardFlow> {
     let Channels { fed, drained } = channels;
     let bodies = bodies_of(alloc, &net)?;
+    for channel in &fed {
+        fed_alone(&net, bodies.as_slice(), *channel)?;
+    }
     match Flow::open(alloc, net, bodies, fed.as_slice(), drained.as_slice()) {
         Ok(flow) => Ok(flow),
         Err(refused) => bail!("{:?}", refused.fault),
     }
+}
+
+/// Returns the channel if its writer stops at once, so that it can be fed.
+fn fed_alone(net: &Net<Standard>, bodies: &[CardBody<Standard>], channel: usize) -> Result<usize> {
+    if channel >= net.channels() {
+        bail!("no channel {channel}");
+    }
+    let process = net.ends(channel).writer;
+    if process < bodies.len() {
+        if stops_at_once(bodies, process) {
+            return Ok(channel);
+        }
+    }
+    bail!("channel {} has a writer", net.channel_name(channel));
 }
