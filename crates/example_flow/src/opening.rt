@@ -22,12 +22,6 @@ struct Ports {
     outputs: Vec<Port>,
 }
 
-#[derive(Drop)]
-struct Channels {
-    fed: Vec<usize>,
-    drained: Vec<usize>,
-}
-
 /// Reads the lines of a description, and the two that follow.
 pub fn read_description<S: BufRead>(alloc: Global, source: &mut S) -> Result<Description> {
     let mut text = String::new(alloc);
@@ -104,26 +98,16 @@ fn port_of(alloc: Global, net: &Net<Standard>, word: &str) -> Result<Port> {
 }
 
 fn flow_between(alloc: Global, net: Net<Standard>, ports: &Ports) -> Result<CardFlow> {
-    let channels = channels_of(alloc, ports)?;
-    flow_of(alloc, net, channels)
-}
-
-fn channels_of(alloc: Global, ports: &Ports) -> Result<Channels> {
-    let fed: Vec<usize> = ports.inputs.iter().map(|port| port.channel).collect(alloc)?;
+    let bodies = bodies_of(alloc, &net)?;
+    let mut fed = Vec::new(alloc);
+    for port in &ports.inputs {
+        fed.push(fed_alone(&net, bodies.as_slice(), port.channel)?)?;
+    }
     let drained: Vec<usize> = ports
         .outputs
         .iter()
         .map(|port| port.channel)
         .collect(alloc)?;
-    Ok(Channels { fed, drained })
-}
-
-fn flow_of(alloc: Global, net: Net<Standard>, channels: Channels) -> Result<CardFlow> {
-    let Channels { fed, drained } = channels;
-    let bodies = bodies_of(alloc, &net)?;
-    for channel in &fed {
-        fed_alone(&net, bodies.as_slice(), *channel)?;
-    }
     match Flow::open(alloc, net, bodies, fed.as_slice(), drained.as_slice()) {
         Ok(flow) => Ok(flow),
         Err(refused) => bail!("{:?}", refused.fault),
