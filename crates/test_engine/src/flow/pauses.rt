@@ -81,16 +81,8 @@ fn take_step<R: Abort>(rt: &R, alloc: Global, flow: &mut CardFlow, step: &Step) 
     }
 }
 
-/// Opens a flow of these inputs and outputs, and takes the steps.
-fn play<R: Abort>(
-    rt: &R,
-    alloc: Global,
-    text: &str,
-    inputs: &[usize],
-    outputs: &[usize],
-    steps: &[Step],
-) {
-    let mut flow = flow_of(rt, alloc, text, inputs, outputs);
+/// Takes the steps with a flow.
+fn play<R: Abort>(rt: &R, alloc: Global, mut flow: CardFlow, steps: &[Step]) {
     for step in steps {
         take_step(rt, alloc, &mut flow, step);
     }
@@ -129,7 +121,8 @@ static SCALED: [Step; 18] = [
 
 #[test]
 fn words_are_scaled(rt: HostRuntime) {
-    play(&rt, rt.alloc(), SCALE, &[0], &[1], &SCALED);
+    let flow = flow_of(&rt, rt.alloc(), SCALE, &[0], &[1]);
+    play(&rt, rt.alloc(), flow, &SCALED);
 }
 
 static BATCH: [Step; 7] = [
@@ -144,7 +137,8 @@ static BATCH: [Step; 7] = [
 
 #[test]
 fn a_batch_is_fed_as_far_as_there_is_room(rt: HostRuntime) {
-    play(&rt, rt.alloc(), SCALE, &[0], &[1], &BATCH);
+    let flow = flow_of(&rt, rt.alloc(), SCALE, &[0], &[1]);
+    play(&rt, rt.alloc(), flow, &BATCH);
 }
 
 static CUT: [Step; 7] = [
@@ -160,7 +154,8 @@ static CUT: [Step; 7] = [
 
 #[test]
 fn a_flow_is_cut(rt: HostRuntime) {
-    play(&rt, rt.alloc(), SCALE, &[0], &[1], &CUT);
+    let flow = flow_of(&rt, rt.alloc(), SCALE, &[0], &[1]);
+    play(&rt, rt.alloc(), flow, &CUT);
 }
 
 static SUMS: [Step; 11] = [
@@ -179,7 +174,8 @@ static SUMS: [Step; 11] = [
 
 #[test]
 fn sums_come_of_two_inputs_and_go_back(rt: HostRuntime) {
-    play(&rt, rt.alloc(), RUNNING_SUM, &[0, 1], &[5], &SUMS);
+    let flow = flow_of(&rt, rt.alloc(), RUNNING_SUM, &[0, 1], &[5]);
+    play(&rt, rt.alloc(), flow, &SUMS);
 }
 
 #[test]
@@ -215,7 +211,8 @@ static TWO_READ: [Step; 4] = [
 
 #[test]
 fn a_flow_terminates(rt: HostRuntime) {
-    play(&rt, rt.alloc(), SINK_OF_TWO, &[0], &[], &TWO_READ);
+    let flow = flow_of(&rt, rt.alloc(), SINK_OF_TWO, &[0], &[]);
+    play(&rt, rt.alloc(), flow, &TWO_READ);
 }
 
 static GROWN: [Step; 8] = [
@@ -232,7 +229,8 @@ static GROWN: [Step; 8] = [
 
 #[test]
 fn a_channel_grows_where_the_outside_can_not_help(rt: HostRuntime) {
-    play(&rt, rt.alloc(), OUTPUT_AND_GROWTH, &[], &[0], &GROWN);
+    let flow = flow_of(&rt, rt.alloc(), OUTPUT_AND_GROWTH, &[], &[0]);
+    play(&rt, rt.alloc(), flow, &GROWN);
 }
 
 /// The second word of the first input waits in vain for one of the second.
@@ -259,7 +257,8 @@ static ONE_ENDS: [Step; 11] = [
 
 #[test]
 fn an_input_ends_and_another_goes_on(rt: HostRuntime) {
-    play(&rt, rt.alloc(), RUNNING_SUM, &[0, 1], &[5], &ONE_ENDS);
+    let flow = flow_of(&rt, rt.alloc(), RUNNING_SUM, &[0, 1], &[5]);
+    play(&rt, rt.alloc(), flow, &ONE_ENDS);
 }
 
 static HELD_UP: [Step; 7] = [
@@ -274,7 +273,8 @@ static HELD_UP: [Step; 7] = [
 
 #[test]
 fn a_flow_that_is_held_up_is_not_exhausted(rt: HostRuntime) {
-    play(&rt, rt.alloc(), SCALE, &[0], &[1], &HELD_UP);
+    let flow = flow_of(&rt, rt.alloc(), SCALE, &[0], &[1]);
+    play(&rt, rt.alloc(), flow, &HELD_UP);
 }
 
 #[test]

@@ -79,23 +79,31 @@ pub(crate) fn sinks_of<R: Abort>(rt: &R, alloc: Global, layout: Layout) -> Vec<L
     sinks
 }
 
-/// What is left of the stream of the sums that was fed with bytes, from one layout to another.
-fn served_of<'a, R: Abort, L: Onlooker>(
+/// One source of bytes in one layout, and one sink in another.
+fn ends_of<'a, R: Abort>(
     rt: &R,
     alloc: Global,
     bytes: &'a [u8],
     from: Layout,
     to: Layout,
+) -> LaidEnds<&'a [u8], Vec<u8>> {
+    LaidEnds {
+        sources: sources_of(rt, alloc, bytes, from),
+        sinks: sinks_of(rt, alloc, to),
+        tables: Vec::new(alloc),
+    }
+}
+
+/// What is left of the stream of the sums between these ends.
+fn served_of<'a, R: Abort, L: Onlooker>(
+    rt: &R,
+    alloc: Global,
+    ends: LaidEnds<&'a [u8], Vec<u8>>,
     onlooker: &L,
 ) -> EndedStream<Kinds, &'a [u8], Vec<u8>> {
     let (fed, drained) = (name(rt, alloc, "x"), name(rt, alloc, "y"));
     let stream = opened(rt, alloc, &[fed], &[drained]);
     let stream = stream.ok().expect(rt, "no stream");
-    let ends = LaidEnds {
-        sources: sources_of(rt, alloc, bytes, from),
-        sinks: sinks_of(rt, alloc, to),
-        tables: Vec::new(alloc),
-    };
     serve(alloc, stream, ends, onlooker).expect(rt, "no memory")
 }
 
@@ -140,7 +148,8 @@ fn an_onlooker_sees_how_many_tokens_came_and_went(rt: HostRuntime) {
         written: AtomicU64::new(0),
     };
     let plain = Layout::PLAIN;
-    let served = served_of(&rt, alloc, b"3\n-1\n300\n", plain, plain, &seen);
+    let ends = ends_of(&rt, alloc, b"3\n-1\n300\n", plain, plain);
+    let served = served_of(&rt, alloc, ends, &seen);
     let has_seen = seen.channels.load(Ordering::SeqCst) > 0;
     let read = seen.read.load(Ordering::SeqCst);
     let written = seen.written.load(Ordering::SeqCst);
@@ -162,14 +171,8 @@ fn wrote<R: Abort>(rt: &R, outlets: &mut Vec<Outlet<Vec<u8>>>, due: &[u8]) {
 /// Streams a text through the sums, compares what was written and why it ended, and returns whether nothing
 /// is left to do.
 fn streamed<R: Abort>(rt: &R, alloc: Global, text: &str, written: &str, due: StreamFinish) -> bool {
-    let mut served = served_of(
-        rt,
-        alloc,
-        text.as_bytes(),
-        Layout::PLAIN,
-        Layout::PLAIN,
-        &NoOnlooker,
-    );
+    let ends = ends_of(rt, alloc, text.as_bytes(), Layout::PLAIN, Layout::PLAIN);
+    let mut served = served_of(rt, alloc, ends, &NoOnlooker);
     same(rt, "finish", served.finish, due);
     wrote(rt, &mut served.outlets, written.as_bytes());
     let is_exhausted = served.flow.is_exhausted();
@@ -198,7 +201,8 @@ struct Sampled<'a> {
 /// Streams samples of two bytes, the low one first, through the sums.
 fn compare_samples<R: Abort>(rt: &R, alloc: Global, bytes: &[u8], to: Layout, due: &Sampled<'_>) {
     let from = samples(Width::Two, Endian::Little, false);
-    let mut served = served_of(rt, alloc, bytes, from, to, &NoOnlooker);
+    let ends = ends_of(rt, alloc, bytes, from, to);
+    let mut served = served_of(rt, alloc, ends, &NoOnlooker);
     let ended = (served.finish, counted(rt, &served));
     same(rt, "finish, counts", ended, (due.finish, due.counts));
     wrote(rt, &mut served.outlets, due.written);
@@ -259,7 +263,8 @@ fn sums_come_of_a_column(rt: HostRuntime) {
         },
     });
     let bytes = b"a;0.5\n\"b;c\";-1.25;7\nd;\n";
-    let mut served = served_of(&rt, alloc, bytes, from, Layout::PLAIN, &NoOnlooker);
+    let ends = ends_of(&rt, alloc, bytes, from, Layout::PLAIN);
+    let mut served = served_of(&rt, alloc, ends, &NoOnlooker);
     let empty = StreamFinish::Refused(0, Refusal::Fault(RecordFault::EmptyField));
     same(&rt, "finish", served.finish, empty);
     wrote(&rt, &mut served.outlets, b"50\n-75\n");
@@ -275,7 +280,8 @@ fn a_long_line_is_read_on(rt: HostRuntime) {
         text.push(b'#').expect(&rt, "no memory");
     }
     text.extend_from_slice(b"\n2\n").expect(&rt, "no memory");
-    let mut served = served_of(&rt, alloc, text.as_slice(), plain, plain, &NoOnlooker);
+    let ends = ends_of(&rt, alloc, text.as_slice(), plain, plain);
+    let mut served = served_of(&rt, alloc, ends, &NoOnlooker);
     same(
         &rt,
         "finish",
@@ -304,7 +310,8 @@ fn sums_come_of_lines(rt: HostRuntime) {
 #[test]
 fn nothing_waits_after_a_stream(rt: HostRuntime) {
     let plain = Layout::PLAIN;
-    let served = served_of(&rt, rt.alloc(), b"3\n4\n", plain, plain, &NoOnlooker);
+    let ends = ends_of(&rt, rt.alloc(), b"3\n4\n", plain, plain);
+    let served = served_of(&rt, rt.alloc(), ends, &NoOnlooker);
     let inlet = served.inlets.as_slice().first().expect(&rt, "no source");
     let outlet = served.outlets.as_slice().first().expect(&rt, "no sink");
     let left = (inlet.source().len(), outlet.waiting());
@@ -316,7 +323,8 @@ fn nothing_waits_after_a_stream(rt: HostRuntime) {
 #[test]
 fn what_is_refused_is_held(rt: HostRuntime) {
     let plain = Layout::PLAIN;
-    let served = served_of(&rt, rt.alloc(), b"3\nx\n5\n", plain, plain, &NoOnlooker);
+    let ends = ends_of(&rt, rt.alloc(), b"3\nx\n5\n", plain, plain);
+    let served = served_of(&rt, rt.alloc(), ends, &NoOnlooker);
     let inlet = served.inlets.as_slice().first().expect(&rt, "no source");
     same(&rt, "held", inlet.held(), 4);
 }

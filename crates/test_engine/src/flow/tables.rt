@@ -93,6 +93,12 @@ fn counted(table: &TableOutlet<Vec<u8>>, place: usize) -> Option<(u64, u64)> {
     Some((lane.tokens(), lane.clipped()))
 }
 
+/// The channel of a column, how many of its tokens wait for their rows, and whether one did not fit.
+fn left_in(table: &TableOutlet<Vec<u8>>, place: usize) -> Option<(usize, usize, bool)> {
+    let lane = table.lanes().get(place)?;
+    Some((lane.channel(), lane.waiting(), lane.is_misfit()))
+}
+
 /// Two channels as the rows of one table.
 fn rows<'a>(channels: [&'a str; 2], separator: Separator) -> Drained<'a> {
     Drained {
@@ -124,6 +130,10 @@ fn rows_hold_a_word_of_each_channel(rt: HostRuntime) {
         (table.width(), table.waiting()),
         (2, 0),
     );
+    // The second and the fourth channel of the text.
+    let columns = [left_in(table, 0), left_in(table, 1)];
+    let due = [Some((1, 0, false)), Some((3, 0, false))];
+    same(&rt, "columns", columns, due);
     let text = written(&rt, &mut served.tables);
     same(
         &rt,
@@ -205,6 +215,10 @@ fn a_word_does_not_fit_a_column(rt: HostRuntime) {
     let alloc = rt.alloc();
     let mut served = paired(&rt, alloc, b"3\n300\n4\n", samples(Width::One, false));
     same(&rt, "finish", served.finish, StreamFinish::Misfit(0));
+    let table = served.tables.as_slice().first().expect(&rt, "no table");
+    let columns = [left_in(table, 0), left_in(table, 1)];
+    let due = [Some((1, 0, true)), Some((3, 0, false))];
+    same(&rt, "columns", columns, due);
     let text = written(&rt, &mut served.tables);
     same(&rt, "before it", text.as_slice(), [3, 9, 0, 3].as_slice());
     drop(served);

@@ -3,7 +3,7 @@ use super::minus;
 use crate::checks::same;
 use kpn_tokens::{
     Cell, Column, Decimals, Layout, RecordFault, Separator, Sort, Table, Token, append_names,
-    append_row, append_tokens, column_named, record_in, token_of_record,
+    append_row, append_tokens, column_named, line_feed_in, record_in, token_of_record,
 };
 
 /// Written by Python's csv.writer, with `;` between fields.
@@ -35,6 +35,13 @@ fn finds_a_column_by_its_name(rt: HostRuntime) {
     let row = b"\xEF\xBB\xBFtime, level ,level\r";
     let place = column_named(alloc, Separator::Comma, row, "level");
     same(&rt, "first of two", place, Ok(Ok(1)));
+}
+
+#[test]
+fn finds_the_first_line_feed(rt: HostRuntime) {
+    same(&rt, "two lines", line_feed_in(FILE), Some(23));
+    same(&rt, "at once", line_feed_in(b"\n\n"), Some(0));
+    same(&rt, "none", line_feed_in(b"time\r"), None);
 }
 
 /// A line, the place of a column, and its token or fault.
