@@ -1,5 +1,5 @@
 //! Runs a network.
-ghost use Rattle.std.specs.Prelude.{◌≡◌, ◌≢◌, ◌<◌, ℕ, IfOk, IsSome, Err, map};
+ghost use Rattle.std.specs.Prelude.{◌≡◌, ◌≢◌, ◌+◌, ◌<◌, ◌≤◌, ℕ, IfOk, IsSome, None, Err, length, map};
 ghost use Rattle.std.specs.List.{All};
 ghost use Rattle.kpn_model.specs.Families.{family};
 ghost use Rattle.kpn_state.specs.declared.standing.Standing.TheVariants.{Out};
@@ -20,7 +20,7 @@ use kpn_report::Tallied;
 use kpn_run::starting::MOST_WORKERS;
 use kpn_run::{Prompt, RunFault, run_with_keeper};
 use kpn_state::{Keeper, Packed};
-use std::alloc::Global;
+use std::alloc::{AllocError, Global};
 use std::rt::Clock;
 use std::sync::Wait;
 use std::thread::Threads;
@@ -56,13 +56,26 @@ pub fn execute<K: Computes, R: Wait + Clock + Threads + Sync, P: ProgressReceive
     if wanted.workers > 1 {
         return execute_by_workers(rt, alloc, net, bodies, wanted);
     }
+    execute_alone(alloc, net, bodies, wanted).map_err(|_| NoResult::Memory)
+}
+
+/// Runs a network in the calling thread.
+fn execute_alone<K: Computes, P: ProgressReceiver>(
+    alloc: Global,
+    net: Net<K>,
+    bodies: Vec<CardBody<K>>,
+    wanted: &WantedRun<'_, '_, P>,
+) -> Result<Told, AllocError>
+    requires { All (IsWithin net) wanted.now.streams.outputs.now }
+    ensures { IfOk result (TellsRun (family K.Kinds) net wanted.now.streams.show.now wanted.now.streams.outputs.now) }
+{
     let Ok(mut machine) = Machine::<CardBody<K>, Tallied>::open_with_keeper(alloc, net, bodies)
     else {
-        return Err(NoResult::Memory);
+        return Err(AllocError);
     };
     finish(&mut machine, wanted.progress);
     let chronicle = machine.into_chronicle();
-    told_of(alloc, &chronicle, chronicle.keeper(), &wanted.streams).map_err(|_| NoResult::Memory)
+    told_of(alloc, &chronicle, chronicle.keeper(), &wanted.streams)
 }
 
 /// Runs to an end in the calling thread, a piece at a time. No process may be out.
@@ -72,9 +85,22 @@ fn finish<B: Body, H: Keeper, P: ProgressReceiver>(machine: &mut Machine<B, H>, 
     ensures ended { IsSome machine.new.end }
 {
     while machine.end().is_none() {
-        machine.ask_in_place(PIECE);
+        go_on(machine);
         tell_of(machine, progress);
     }
+}
+
+/// Continues a run by some answers.
+fn go_on<B: Body, H: Keeper>(machine: &mut Machine<B, H>)
+    requires on { machine.old.end ≡ None }
+    requires none_out { (p : ℕ) → standing machine.old.standings p ≢ Out }
+    ensures network { machine.new.network ≡ machine.old.network }
+    ensures none_out { (p : ℕ) → standing machine.new.standings p ≢ Out }
+    ensures more { machine.old.commits < machine.new.commits }
+    ensures few { machine.new.commits ≤ machine.new.network.budget + 2 + length machine.new.network.processes }
+{
+    machine.assure_faithful();
+    machine.ask_in_place(PIECE);
 }
 
 /// Runs a network with several workers, at most 16, and with a thread that shows their progress if that is wanted.
