@@ -255,7 +255,7 @@ inline machine_commit_on() {
 #endif
 }
 
-/* Guarded::give: each answer of the hand is committed; a process that can go on may go out again, if fewer than
+/* Hand::give: each answer of the hand is committed; a process that can go on may go out again, if fewer than
    `keep` did. If the run has ended none of these stays out. */
 inline give() {
     do

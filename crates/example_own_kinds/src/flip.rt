@@ -109,7 +109,6 @@ pub fn flip_answer(alloc: Global, read: Option<bool>) -> Result<Answer, AllocErr
     let call: Call = Box::new(
         alloc,
         move |local: Local, last: Option<Token>| -> Answer
-            requires { FlipLine local last }
             ensures { result ≡ flips.answer flip local last }
         { line_of(last) },
     )?;

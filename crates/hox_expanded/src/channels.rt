@@ -44,12 +44,13 @@ fn push_ends<K: Kinds>(out: &mut String, net: &Net<K>, channel: &Channel) -> Res
     Ok(())
 }
 
-fn sort_part(sort: Sort) -> &'static str
-    ensures { result.now ≡ sort_part sort }
+/// Appends a sort, unless it is that of words.
+fn push_sort(out: &mut String, sort: Sort) -> Result<(), AllocError>
+    ensures { OnOk result (string_bytes out.new ≡ string_bytes out.old ++ sort_part sort) }
 {
     match sort {
-        Sort::Words => "",
-        Sort::Flags => ", sort = \"flags\"",
+        Sort::Words => Ok(()),
+        Sort::Flags => out.push_str(", sort = \"flags\""),
     }
 }
 
@@ -111,7 +112,7 @@ fn push_tokens(out: &mut String, tokens: &[Token]) -> Result<(), AllocError>
 fn push_state(out: &mut String, channel: &Channel) -> Result<(), AllocError>
     ensures { OnOk result (string_bytes out.new ≡ string_bytes out.old ++ state_part channel.now) }
 {
-    out.push_str(sort_part(channel.sort))?;
+    push_sort(out, channel.sort)?;
     push_capacity(out, channel.capacity)?;
     push_tokens(out, channel.tokens.as_slice())?;
     Ok(())

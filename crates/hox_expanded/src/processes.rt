@@ -1,5 +1,5 @@
 //! Processes, a line each.
-ghost use Rattle.std.specs.Prelude.{◌≡◌, ◌++◌, ◌<◌, OnOk, length, string_bytes};
+ghost use Rattle.std.specs.Prelude.{◌≡◌, ◌++◌, OnOk, length, string_bytes};
 ghost use Rattle.kpn_model.specs.texts.Reports.{lines_upto};
 ghost use Rattle.kpn_picture.specs.Titles.{name_of};
 ghost use Rattle.hox_expanded.specs.Description.{argument_text, arguments_part, kind_part, later_argument, process_line};
@@ -57,25 +57,17 @@ fn push_kind(out: &mut String, title: Title) -> Result<(), AllocError>
     out.push_str("\"")
 }
 
-fn push_process<K: Titled>(out: &mut String, net: &Net<K>, p: usize) -> Result<(), AllocError>
-    requires { p < length net.now.processes }
-    ensures { OnOk result (string_bytes out.new ≡ string_bytes out.old ++ process_line net.now K.title p) }
-{
-    let name = process_name(net, p);
-    let card = net.card(p);
-    let title = K::title(&card);
-    push_name(out, name)?;
-    push_kind(out, title)?;
-    push_arguments(out, &card, title.arguments)?;
-    out.push_str(" },\n")?;
-    Ok(())
-}
-
 pub(crate) fn push_processes<K: Titled>(out: &mut String, net: &Net<K>) -> Result<(), AllocError>
     ensures { OnOk result (string_bytes out.new ≡ string_bytes out.old ++ lines_upto (process_line net.now K.title) (length net.now.processes)) }
 {
     for p in 0..net.processes() {
-        push_process(out, net, p)?;
+        let name = process_name(net, p);
+        let card = net.card(p);
+        let title = K::title(&card);
+        push_name(out, name)?;
+        push_kind(out, title)?;
+        push_arguments(out, &card, title.arguments)?;
+        out.push_str(" },\n")?;
     }
     Ok(())
 }

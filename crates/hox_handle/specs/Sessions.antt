@@ -50,10 +50,6 @@ pub record GoesOn (s t : FlowView) (most : ℕ) (pause : Pause) : Type 0 where
 abbrev pub may_feed : FlowView → ℕ → Bool
 may_feed s c = is_among s.unended c && nat_lt (length (tokens s.state c)) (capacity s.state c)
 
--- the number of tokens in c, and its current capacity
-abbrev pub fill : FlowView → ℕ → ℕ × ℕ
-fill s c = (length (tokens s.state c), capacity s.state c)
-
 -- the channel at this place of the list has this name
 pub record IsNamedAt (net : Network) (channels : List ℕ) (name : List ℕ) (place : ℕ) : Type 0 where
   pub channel : ℕ

@@ -1,8 +1,9 @@
 //! A flow with its inputs and outputs.
 ghost use Rattle.std.specs.Prelude.{◌≡◌, option_map, slice_get};
+ghost use Rattle.kpn_flow.specs.Flows.{fill};
 ghost use Rattle.kpn_flow.specs.Stands.{IsStand};
 ghost use Rattle.kpn_flow.specs.Waits.{starves, holds_up};
-ghost use Rattle.hox_handle.specs.Sessions.{flow_kinds, fill, may_feed, DrainsAt, EndsAt, FeedsAt, GoesOn};
+ghost use Rattle.hox_handle.specs.Sessions.{flow_kinds, may_feed, DrainsAt, EndsAt, FeedsAt, GoesOn};
 
 use crate::answers::ReturnCode;
 use crate::words::{Transferred, drain_words, feed_words};

@@ -1,7 +1,7 @@
 -- What comes of a stream, one after another.
 use Rattle.std.proofs.Common.{◌≡◌, ◌<◌, ◌+◌, ◌++◌, ◌==◌, ⊎_elim, inl, inr, get_or, Option, Some, None, IfSome, ℕ, Bool, true, false, cond, List, [], ◌∷◌, length, length-set, set, map, refl, sym, ap, ◌∙◌, subst, arith}
 use Rattle.std.proofs.lemmas.Bool.{cases_eq, eq-eqb, ne_eqb}
-use Rattle.std.proofs.lemmas.List.{get_or-set_same, get_or-set_other}
+use Rattle.std.proofs.lemmas.List.{get_or-set_same, get_or-set_other, set-set, set-get_or}
 use Rattle.kpn_model.specs.declared.token.Token.{Token}
 use Rattle.kpn_model.specs.declared.history.Entry.{Entry}
 use Rattle.kpn_model.specs.Network.{Family, Network, channel_of}
@@ -288,6 +288,22 @@ pub streams_flushed :
     → Streams kinds s s ins ins (outs sinks tables) (outs (set sinks k q) tables)
 streams_flushed kinds s ins sinks tables k p q within at w =
     streams_told kinds s s ins sinks tables k p q within at (record { same = same_net_none s; tokens = []; writes = w; flows = refl; at_ends = tt })
+
+module _ (kinds : Family) (ins : List InletView) (sinks : List OutletView) (tables : List TableView) (k : ℕ) where
+  -- a table stays as it is
+  pub streams_table_none : (s : FlowView) (p : TableView) → table_at tables k ≡ p → Streams kinds s s ins ins (outs sinks tables) (outs sinks (set tables k p))
+  streams_table_none s p at =
+      subst (λ (after : List TableView). Streams kinds s s ins ins (outs sinks tables) (outs sinks after)) (sym (ap (λ (t : TableView). set tables k t) (sym at) ∙ set-get_or tables k no_table))
+      (streams_none kinds s s ins (outs sinks tables) refl)
+
+  -- one more of its columns is written
+  pub streams_table_more :
+      (s t u : FlowView) (i : ℕ) (q r : TableView) → k < length tables → i < length q.lanes → Streams kinds s t ins ins (outs sinks tables) (outs sinks (set tables k q)) → TellsLane kinds t u q r i
+      → Streams kinds s u ins ins (outs sinks tables) (outs sinks (set tables k r))
+  streams_table_more s t u i q r within inside x y =
+      subst (λ (after : List TableView). Streams kinds s u ins ins (outs sinks tables) (outs sinks after)) (set-set tables k q r)
+      (streams_both kinds s t u ins ins ins (outs sinks tables) (outs sinks (set tables k q)) (outs sinks (set (set tables k q) k r)) x
+      (streams_lane_told kinds t u ins sinks (set tables k q) k i q r (subst (λ n. k < n) (sym (length-set tables k q)) within) inside (sym (get_or-set_same tables k q no_table within)) y))
 
 -- and so is a table
 pub streams_table_flushed :

@@ -1,5 +1,5 @@
 -- A flow between sources and sinks.
-use Rattle.std.specs.Prelude.{◌≡◌, ◌≢◌, ◌<◌, ◌+◌, ◌&&◌, ◌⊎◌, ℕ, Bool, true, false, List, [], length, get_or, Result, Ok, IfErr}
+use Rattle.std.specs.Prelude.{◌≡◌, ◌≢◌, ◌<◌, ◌+◌, ◌&&◌, ◌⊎◌, ℕ, Bool, true, false, List, [], length, get_or, set, Result, Ok, IfErr}
 use Rattle.kpn_model.specs.Network.{Family, channel_of}
 use Rattle.kpn_model.specs.Endings.{NothingGoesOn}
 use Rattle.kpn_flow.specs.Events.{Event, Flows, fed, drained}
@@ -10,6 +10,7 @@ use Rattle.kpn_flow.specs.Preloaded.{IsAtEnds}
 use Rattle.kpn_flow.specs.Waits.{starves}
 use Rattle.hox_stream.specs.declared.finish.StreamFinish.{StreamFinish}
 use Rattle.hox_stream.specs.declared.finish.StreamFinish.TheVariants.{Over, Refused, Unread, OtherSort, Unwritten, Misfit, Apart, Idle, Memory, Cut}
+use Rattle.hox_stream.specs.declared.table.TableFault.{TableFault}
 use Rattle.hox_stream.specs.declared.table.TableFault.TheVariants.{Misfit as MisfitInTable, Apart as ApartInTable}
 use Rattle.hox_stream.specs.Cutting.{IsRefused}
 use Rattle.hox_stream.specs.Ports.{IsSameNet, Takes, Writes}
@@ -130,7 +131,7 @@ pub record TablesEnd {X : Type 0} (before after : List TableView) (first : ℕ) 
   pub finish : IfErr result (λ f. (kinds : Family) (s : FlowView) (ins : List InletView) (sinks : List OutletView)
       → length sinks ≡ first → IsFinish kinds s ins (outs sinks after) f)
 
--- the same of all sinks, of which those of one channel stay as they are
+-- the tables end, and the sinks of one channel stay as they are
 pub record OutsEnd {X : Type 0} (before after : OutsView) (result : Result X StreamFinish) : Type 0 where
   pub sinks : after.sinks ≡ before.sinks
   pub ends : AllEnd before.tables after.tables
@@ -145,7 +146,16 @@ module _ (kinds : Family) (s t : FlowView) where
     pub none : result ≡ Ok false → t.state ≡ s.state
     pub finish : IfErr result (λ f. (ins : List InletView) (tables : List TableView) → IsFinish kinds t ins (outs after tables) f)
 
-  -- the same of tables, which follow `first` sinks
+  -- tokens were moved to the columns of a table, wherever it stands, if there were any, up to a fault; nothing else
+  -- happened
+  pub record TellsTable (p q : TableView) (result : Result Bool TableFault) : Type 0 where
+    pub streams : (ins : List InletView) (sinks : List OutletView) (tables : List TableView) (k : ℕ)
+        → k < length tables → table_at tables k ≡ p → Streams kinds s t ins ins (outs sinks tables) (outs sinks (set tables k q))
+    pub same : IsSameFlow s t
+    pub none : result ≡ Ok false → t.state ≡ s.state
+    pub fault : IfErr result (IsTableFault q)
+
+  -- the same of all tables, which follow `first` sinks
   pub record TellsTables (before after : List TableView) (first : ℕ) (result : Result Bool StreamFinish) : Type 0 where
     pub streams : (ins : List InletView) (sinks : List OutletView)
         → Streams kinds s t ins ins (outs sinks before) (outs sinks after)

@@ -103,7 +103,7 @@ pub record EndsTable (p q : TableView) : Type 0 where
   pub rows : RowsGo p q (longest (columns_of p.lanes))
   pub emptied : q.has_failed ≡ false → q.waiting ≡ []
 
--- so it was, or a write failed
+-- all that waits was written, with gaps, or a write failed
 pub record EndsRows {X E : Type 0} (p q : TableView) (result : Result X E) : Type 0 where
   pub ends : EndsTable p q
   pub failed : IfErr result (λ _. q.has_failed ≡ true)

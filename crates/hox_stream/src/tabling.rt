@@ -3,7 +3,7 @@ ghost use Rattle.std.specs.Prelude.{◌≡◌, ◌<◌, ℕ, false, IfErr, List,
 ghost use Rattle.kpn_model.specs.Network.{Family};
 ghost use Rattle.kpn_model.specs.Families.{family};
 ghost use Rattle.kpn_flow.specs.Flows.{FlowView};
-ghost use Rattle.hox_stream.specs.Streams.{AllTablesStay, IsFinish, Streams, TablesEnd, TellsTables, table_at};
+ghost use Rattle.hox_stream.specs.Streams.{AllTablesStay, IsFinish, Streams, TablesEnd, TellsTable, TellsTables, table_at};
 ghost use Rattle.hox_stream.specs.Tables.{IsTableFault, TellsColumn};
 ghost use Rattle.hox_stream.specs.Views.{InletView, OutletView, TableView, outs};
 
@@ -53,26 +53,24 @@ fn finish_of(fault: TableFault, first: usize, k: usize) -> StreamFinish
     }
 }
 
-/// Moves tokens to the columns of table `k`. The tables follow `first` sinks.
+/// Moves tokens to the columns of a table.
 fn tell_table<B: Body, S: Sink>(
     flow: &mut Flow<B>,
-    tables: &mut [TableOutlet<S>],
-    first: usize,
-    k: usize,
-) -> Result<bool, StreamFinish>
-    requires { k < length tables.old }
-    ensures { TellsTables (family B.Kinds.Kinds) flow.old flow.new tables.old tables.new first result }
+    table: &mut TableOutlet<S>,
+) -> Result<bool, TableFault>
+    ensures { TellsTable (family B.Kinds.Kinds) flow.old flow.new table.old table.new result }
 {
     let mut has_moved = false;
-    for place in 0..tables[k].width() {
-        match tell_lane(flow, &mut tables[k], place) {
+    for place in 0..table.width() {
+        match tell_lane(flow, table, place) {
             Ok(moved) => has_moved = has_moved || moved,
-            Err(fault) => return Err(finish_of(fault, first, k)),
+            Err(fault) => return Err(fault),
         }
     }
     Ok(has_moved)
 }
 
+/// Moves tokens to the columns of all tables, which follow `first` sinks.
 pub(crate) fn tell_tables<B: Body, S: Sink>(
     flow: &mut Flow<B>,
     tables: &mut [TableOutlet<S>],
@@ -82,9 +80,9 @@ pub(crate) fn tell_tables<B: Body, S: Sink>(
 {
     let mut has_moved = false;
     for k in 0..tables.len() {
-        match tell_table(flow, tables, first, k) {
+        match tell_table(flow, &mut tables[k]) {
             Ok(moved) => has_moved = has_moved || moved,
-            Err(finish) => return Err(finish),
+            Err(fault) => return Err(finish_of(fault, first, k)),
         }
     }
     Ok(has_moved)

@@ -1,7 +1,8 @@
 //! How a flow stands, and how full its channels are.
 ghost use Rattle.std.specs.Prelude.{◌≡◌, option_map, slice_get};
+ghost use Rattle.kpn_flow.specs.Flows.{fill};
 ghost use Rattle.kpn_flow.specs.Waits.{holds_up, starves};
-ghost use Rattle.hox_handle.specs.Sessions.{fill, may_feed};
+ghost use Rattle.hox_handle.specs.Sessions.{may_feed};
 ghost use Rattle.hoxburen.specs.Calls.{IsReported, LooksAt, TellsFill, TellsFlag, TellsVerdict};
 
 use crate::handle::HoxFlow;

@@ -18,6 +18,16 @@ input process card local last = record { process = process; card = card; local =
 abbrev pub answer_to : Family → Input → Answer
 answer_to family asked = family.answer asked.card asked.local asked.last
 
+-- the card that is asked, with a signature
+pub record IsAskedCard (signature : Card → Option Signature) (asked : Input) (c : Card) : Type 0 where
+  pub card : c ≡ asked.card
+  pub signed : IsSome (signature asked.card)
+
+-- the local state that is asked, which the card admits with the last token
+pub record IsAskedLocal (admits : Admits) (asked : Input) (l : List ℕ) : Type 0 where
+  pub local : l ≡ asked.local
+  pub admitted : admits asked.card asked.local asked.last
+
 -- the family's answer to an admitted input of a card with a signature
 pub record IsAnswerTo (signature : Card → Option Signature) (admits : Admits) (family : Family) (asked : Input) (answer : Answer) : Type 0 where
   pub signed : IsSome (signature asked.card)

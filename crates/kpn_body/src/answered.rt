@@ -1,7 +1,7 @@
 //! The answer of a task.
-ghost use Rattle.std.specs.Prelude.{◌≡◌, IsSome};
+ghost use Rattle.std.specs.Prelude.{◌≡◌};
 ghost use Rattle.kpn_model.specs.Families.{family};
-ghost use Rattle.kpn_body.specs.Input.{input, answer_to, IsAnswerTo};
+ghost use Rattle.kpn_body.specs.Input.{input, answer_to, IsAskedCard, IsAskedLocal, IsAnswerTo};
 
 use kpn_model::{Answer, Card, Kinds, Local, Token};
 use std::marker::{Model, PhantomData};
@@ -58,16 +58,14 @@ impl<K: Kinds> Answered<K> {
 
     /// Returns the card. It has a signature.
     pub fn card(&self) -> Card
-        ensures card { result ≡ self.now.card }
-        ensures signed { IsSome (K.signature self.now.card) }
+        ensures { IsAskedCard K.signature self.now result }
     {
         self.card
     }
 
     /// Returns the local state in which the process was asked.
     pub fn local(&self) -> Local
-        ensures local { result ≡ self.now.local }
-        ensures admitted { K.admits self.now.card self.now.local self.now.last }
+        ensures { IsAskedLocal K.admits self.now result }
     {
         self.local
     }

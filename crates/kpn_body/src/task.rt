@@ -1,7 +1,7 @@
 //! Tasks and their answers.
-ghost use Rattle.std.specs.Prelude.{◌≡◌, IsSome};
+ghost use Rattle.std.specs.Prelude.{◌≡◌};
 ghost use Rattle.kpn_model.specs.Families.{family};
-ghost use Rattle.kpn_body.specs.Input.{input, answer_to};
+ghost use Rattle.kpn_body.specs.Input.{input, answer_to, IsAskedCard, IsAskedLocal};
 
 use crate::answered::Answered;
 use crate::body::Body;
@@ -53,16 +53,14 @@ impl<B: Body> Task<B> {
 
     /// Returns the body's card. It has a signature.
     pub fn card(&self) -> Card
-        ensures card { result ≡ self.now.card }
-        ensures signed { IsSome (B.Kinds.signature self.now.card) }
+        ensures { IsAskedCard B.Kinds.signature self.now result }
     {
         self.body.card()
     }
 
     /// Returns the local state.
     pub fn local(&self) -> Local
-        ensures local { result ≡ self.now.local }
-        ensures admitted { B.Kinds.admits self.now.card self.now.local self.now.last }
+        ensures { IsAskedLocal B.Kinds.admits self.now result }
     {
         self.local
     }

@@ -1,5 +1,6 @@
 -- The parts that a builder adds to a sketch.
-use Rattle.std.specs.Prelude.{ℕ, ℤ, List}
+use Rattle.std.specs.Prelude.{◌≡◌, ℕ, ℤ, List, Result, OnOk, OnErr}
+use Rattle.kpn_sketch.specs.declared.sketch.Sketch.{Sketch}
 use Rattle.kpn_sketch.specs.declared.sketch.ProcessSketch.{ProcessSketch}
 use Rattle.kpn_sketch.specs.declared.sketch.ChannelSketch.{ChannelSketch}
 use Rattle.kpn_builder.specs.declared.builder.NewChannel.{NewChannel}
@@ -9,3 +10,8 @@ process_of name kind args = record { name = name; kind = kind; args = args }
 
 abbrev pub channel_of : NewChannel → ChannelSketch
 channel_of c = record { name = c.name.now; from = c.from.now; to = c.to.now; out = c.out; input = c.input; sort = c.sort; capacity = c.capacity; tokens = c.tokens.now }
+
+-- the sketch has grown to another one, or it was refused memory and is what it was
+pub record GrowsTo {X E : Type 0} (grown before after : Sketch) (result : Result X E) : Type 0 where
+  pub added : OnOk result (after ≡ grown)
+  pub refused : OnErr result (after ≡ before)

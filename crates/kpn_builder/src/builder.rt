@@ -1,5 +1,5 @@
 //! Builds a description.
-ghost use Rattle.std.specs.Prelude.{◌≡◌, ◌≢◌, ◌↔◌, ◌++◌, ◌∷◌, [], false, pos, Some, None, Err, IfOk, IfErr, OnOk, OnErr, string_bytes};
+ghost use Rattle.std.specs.Prelude.{◌≡◌, ◌≢◌, ◌↔◌, ◌++◌, ◌∷◌, [], false, pos, Some, None, Err, IfOk, IfErr, string_bytes};
 ghost use Rattle.std.specs.List.{list_all};
 ghost use Rattle.kpn_model.specs.Valid.{IsValid};
 ghost use Rattle.kpn_model.specs.declared.limits.TheConstants.{DEFAULT_BUDGET};
@@ -7,7 +7,7 @@ ghost use Rattle.kpn_sketch.specs.Description.{Describes};
 ghost use Rattle.kpn_net.specs.Faults.{first_fault};
 ghost use Rattle.kpn_net.specs.Sketched.{net_of};
 ghost use Rattle.kpn_message.specs.EveryFault.{IsMessage};
-ghost use Rattle.kpn_builder.specs.Built.{channel_of, process_of};
+ghost use Rattle.kpn_builder.specs.Built.{GrowsTo, channel_of, process_of};
 ghost use Rattle.kpn_builder.specs.Written.{has_said_tokens};
 
 use crate::text::{TextFault, to_toml};
@@ -207,8 +207,7 @@ impl Builder {
     /// made.process("src", "count", &[1, 8])?;
     /// ```
     pub fn process(&mut self, name: &str, kind: &str, args: &[i64]) -> Result<(), AllocError>
-        ensures added { OnOk result (self.new ≡ record self.old { processes = self.old.processes ++ process_of name.now kind.now args.now ∷ [] }) }
-        ensures refused { OnErr result (self.new ≡ self.old) }
+        ensures { GrowsTo (record self.old { processes = self.old.processes ++ process_of name.now kind.now args.now ∷ [] }) self.old self.new result }
     {
         let process = process_in(self.alloc, name, kind, args)?;
         self.sketch.processes.push(process)
@@ -220,8 +219,7 @@ impl Builder {
     /// made.channel(NewChannel::new("x", "src", "x3").capacity(4))?;
     /// ```
     pub fn channel(&mut self, channel: NewChannel<'_>) -> Result<(), AllocError>
-        ensures added { OnOk result (self.new ≡ record self.old { channels = self.old.channels ++ channel_of channel.entry ∷ [] }) }
-        ensures refused { OnErr result (self.new ≡ self.old) }
+        ensures { GrowsTo (record self.old { channels = self.old.channels ++ channel_of channel.entry ∷ [] }) self.old self.new result }
     {
         let channel = channel.to_sketch(self.alloc)?;
         self.sketch.channels.push(channel)

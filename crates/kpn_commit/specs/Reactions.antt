@@ -1,6 +1,5 @@
 -- The effect of a process's answer on the network.
 use Rattle.std.specs.Prelude.{◌≡◌, ◌≢◌, ◌<◌, ℕ, List, Some, length, set}
-use Rattle.kpn_model.specs.declared.kinds.Act.{Act}
 use Rattle.kpn_model.specs.declared.kinds.Act.TheVariants.{Stop}
 use Rattle.kpn_model.specs.declared.kinds.Answer.{Answer}
 use Rattle.kpn_model.specs.declared.history.Deed.{Deed}
@@ -38,19 +37,20 @@ module _ (kinds : Family) (admits : Admits) (net : Network) where
     pub keeps : StandingsFit kinds admits net (partner net d) t.state (set standings p (standing_after d))
 
 module _ (kinds : Family) (net : Network) where
-  -- p does the act, and the deed is entered
-  pub record EntersDeed (s : StateAndHistory) (p : ℕ) (act : Act) (next : List ℕ) (d : Deed) (t : StateAndHistory) : Type 0 where
-    pub is_deed : IsDeed kinds net s.state p act d
-    pub entry : t ≡ more s (after_deed kinds net s.state p next d) (Did p d)
-
-  -- p can't do the act, and nothing changes
-  pub record IsLeft (s : StateAndHistory) (p : ℕ) (act : Act) (t : StateAndHistory) : Type 0 where
-    pub cannot : IsPossible kinds net s.state p act → ⊥
-    pub same : t ≡ s
+  -- p reads or writes as it answered, and the deed is entered
+  pub record EntersDeed (s : StateAndHistory) (p : ℕ) (a : Answer) (d : Deed) (t : StateAndHistory) : Type 0 where
+    pub is_deed : IsDeed kinds net s.state p a.act d
+    pub entry : t ≡ more s (after_deed kinds net s.state p a.next d) (Did p d)
+    pub ready : standing_after d ≡ Ready
 
   -- the answer is a stop, or p can't do it
   abbrev pub CannotGoOn : State → ℕ → Answer → Type 0
   CannotGoOn M p a = a.act ≢ Stop → IsPossible kinds net M p a.act → ⊥
+
+  -- p can't go on as it answered, and nothing changes
+  pub record IsLeft (s : StateAndHistory) (p : ℕ) (a : Answer) (t : StateAndHistory) : Type 0 where
+    pub cannot : CannotGoOn s.state p a
+    pub same : t ≡ s
 
   pub record Acted (s : StateAndHistory) (standings : List Standing) (p : ℕ) (d : Deed) (t : StateAndHistory) (moved : List Standing) : Type 0 where
     pub does : Does kinds net s.state p d t.state

@@ -10,75 +10,43 @@ ghost use Rattle.kpn_state.specs.StateAndHistory.{more};
 ghost use Rattle.kpn_state.specs.Standings.{StandingsFit, standing, standing_after, partner, HasChannel};
 ghost use Rattle.kpn_commit.specs.Reactions.{HasRoomToAct, EntersDeed, IsLeft, WantsToAct, ActsOn, CannotGoOn};
 
-use kpn_model::{Act, Answer, Card, Deed, Kinds, Local, Token};
+use kpn_model::{Act, Answer, Card, Deed, Kinds};
 use kpn_network::Net;
 use kpn_state::standing::standing_after;
 use kpn_state::{Keeper, Roster, Store};
 
-/// Reads, if the channel holds a token; otherwise returns `None` and changes nothing.
+/// Reads or writes as answered, if that is possible; otherwise, and for a stop, returns `None` and changes nothing.
 #[inline(always)]
-fn read<K: Kinds, H: Keeper>(
-    net: &Net<K>,
-    store: &mut Store<H>,
-    process: usize,
-    port: u8,
-    next: Local,
-) -> Option<Deed>
-    requires { HasRoomToAct net.now store.old process }
-    ensures does { IfSome result (λ deed. EntersDeed (family K.Kinds) net.now store.old process (Act.Read port) next deed store.new) }
-    ensures cannot { IfNone result (IsLeft (family K.Kinds) net.now store.old process (Act.Read port) store.new) }
-{
-    let channel = net.input_at(process, usize::from(port))?;
-    let (tokens, _) = store.tokens_and_capacity(channel);
-    if tokens == 0 {
-        return None;
-    }
-    let token = store.take(process, channel, next);
-    Some(Deed::Took { channel, token })
-}
-
-/// Writes, if the channel has room; otherwise returns `None` and changes nothing.
-#[inline(always)]
-fn write<K: Kinds, H: Keeper>(
-    net: &Net<K>,
-    store: &mut Store<H>,
-    process: usize,
-    port: u8,
-    token: Token,
-    next: Local,
-) -> Option<Deed>
-    requires { HasRoomToAct net.now store.old process }
-    ensures does { IfSome result (λ deed. EntersDeed (family K.Kinds) net.now store.old process (Act.Write port token) next deed store.new) }
-    ensures cannot { IfNone result (IsLeft (family K.Kinds) net.now store.old process (Act.Write port token) store.new) }
-{
-    let channel = net.output_at(process, usize::from(port))?;
-    let (tokens, capacity) = store.tokens_and_capacity(channel);
-    if tokens >= capacity {
-        return None;
-    }
-    store.put(process, channel, next, token);
-    Some(Deed::Put { channel, token })
-}
-
-/// Does the act of an answer, if that is possible; otherwise returns `None` and changes nothing.
-#[inline(always)]
-fn perform<K: Kinds, H: Keeper>(
+fn read_or_write<K: Kinds, H: Keeper>(
     net: &Net<K>,
     store: &mut Store<H>,
     process: usize,
     answer: Answer,
 ) -> Option<Deed>
     requires { HasRoomToAct net.now store.old process }
-    ensures does { IfSome result (λ deed. EntersDeed (family K.Kinds) net.now store.old process answer.act answer.next deed store.new) }
-    ensures cannot { IfNone result (IsLeft (family K.Kinds) net.now store.old process answer.act store.new) }
+    ensures does { IfSome result (λ deed. EntersDeed (family K.Kinds) net.now store.old process answer deed store.new) }
+    ensures cannot { IfNone result (IsLeft (family K.Kinds) net.now store.old process answer store.new) }
 {
     match answer.act {
-        Act::Stop => {
-            store.stop(process);
-            Some(Deed::Stopped)
+        Act::Read(port) => {
+            let channel = net.input_at(process, usize::from(port))?;
+            let (tokens, _) = store.tokens_and_capacity(channel);
+            if tokens == 0 {
+                return None;
+            }
+            let token = store.take(process, channel, answer.next);
+            Some(Deed::Took { channel, token })
         }
-        Act::Read(port) => read(net, store, process, port, answer.next),
-        Act::Write(port, token) => write(net, store, process, port, token, answer.next),
+        Act::Write(port, token) => {
+            let channel = net.output_at(process, usize::from(port))?;
+            let (tokens, capacity) = store.tokens_and_capacity(channel);
+            if tokens >= capacity {
+                return None;
+            }
+            store.put(process, channel, answer.next, token);
+            Some(Deed::Put { channel, token })
+        }
+        Act::Stop => None,
     }
 }
 
@@ -118,7 +86,13 @@ pub fn advance<K: Kinds, H: Keeper>(
 {
     net.assure_valid();
     laws_of::<K>(net.card(process));
-    let deed = perform(net, store, process, answer)?;
+    let deed = match answer.act {
+        Act::Stop => {
+            store.stop(process);
+            Deed::Stopped
+        }
+        Act::Read(_) | Act::Write(..) => read_or_write(net, store, process, answer)?,
+    };
     standings.update(process, standing_after(deed));
     Some(deed)
 }
@@ -140,10 +114,6 @@ pub(crate) fn advance_on<K: Kinds, H: Keeper>(
 {
     net.assure_valid();
     laws_of::<K>(net.card(process));
-    let deed = match answer.act {
-        Act::Stop => None,
-        Act::Read(port) => read(net, store, process, port, answer.next),
-        Act::Write(port, token) => write(net, store, process, port, token, answer.next),
-    }?;
+    let deed = read_or_write(net, store, process, answer)?;
     Some(deed)
 }

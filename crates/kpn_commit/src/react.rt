@@ -39,43 +39,6 @@ pub(crate) fn react<K: Kinds, H: Keeper>(
     requires { HasAnswered (family K.Kinds) K.admits net.now core.old process answer 2 }
     ensures { ReactsTo (family K.Kinds) K.admits net.now core.old process answer result core.new }
 {
-    let next = answer.next;
-    match answer.act {
-        Act::Read(port) => {
-            let answer = Answer {
-                next,
-                act: Act::Read(port),
-            };
-            react_to(net, core, process, answer)
-        }
-        Act::Write(port, token) => {
-            let answer = Answer {
-                next,
-                act: Act::Write(port, token),
-            };
-            react_to(net, core, process, answer)
-        }
-        Act::Stop => {
-            let answer = Answer {
-                next,
-                act: Act::Stop,
-            };
-            react_to(net, core, process, answer)
-        }
-    }
-}
-
-/// The body of `react`, called once for each act, so that once inlined it tests the act only once.
-#[inline(always)]
-fn react_to<K: Kinds, H: Keeper>(
-    net: &Net<K>,
-    core: &mut Core<H>,
-    process: usize,
-    answer: Answer,
-) -> Reaction
-    requires { HasAnswered (family K.Kinds) K.admits net.now core.old process answer 2 }
-    ensures { ReactsTo (family K.Kinds) K.admits net.now core.old process answer result core.new }
-{
     let Some(deed) = advance(net, &mut core.store, &mut core.standings, process, answer) else {
         park(net, core, process, rebuilt(answer));
         return Reaction::Waits;

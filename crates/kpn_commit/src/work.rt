@@ -15,7 +15,7 @@ use crate::cores::Core;
 use crate::outcome::Outcome;
 use crate::react::{Reaction, react, react_on};
 use crate::resolution::{Resolution, resolve_idle};
-use kpn_model::{Answer, End, Kinds};
+use kpn_model::{Act, Answer, End, Kinds};
 use kpn_network::Net;
 use kpn_state::Keeper;
 
@@ -87,7 +87,22 @@ pub fn work<K: Kinds, H: Keeper>(
     requires { HasAnswered (family K.Kinds) K.admits net.now core.old process answer 3 }
     ensures { WorksTo (family K.Kinds) K.admits net.now core.old process answer result.0 result.1 core.new }
 {
-    let reaction = react(net, core, process, answer);
+    // One call for each act, so that once inlined the act is tested only once.
+    let next = answer.next;
+    let reaction = match answer.act {
+        Act::Read(port) => {
+            let act = Act::Read(port);
+            react(net, core, process, Answer { next, act })
+        }
+        Act::Write(port, token) => {
+            let act = Act::Write(port, token);
+            react(net, core, process, Answer { next, act })
+        }
+        Act::Stop => {
+            let act = Act::Stop;
+            react(net, core, process, Answer { next, act })
+        }
+    };
     let (resolution, end) = settle(net, core);
     (outcome_of(reaction, resolution), end)
 }

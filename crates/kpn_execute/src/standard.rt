@@ -82,8 +82,9 @@ fn make_and_execute<S: Sink, R: Wait + Clock + Threads + Sync>(
     } = request;
     let mut bodies = Vec::new(alloc);
     for process in 0..cards.len() {
-        let (card, kind) = signed_card(cards, process);
-        let args = card.args;
+        let signed = signed_card(cards, process);
+        let kind = signed.kind;
+        let args = signed.card.args;
         let body = match kind {
             Kind::Count => {
                 let call: Call = Box::new(
@@ -93,7 +94,7 @@ fn make_and_execute<S: Sink, R: Wait + Clock + Threads + Sync>(
                         ensures { result ≡ standard.answer (card_of_kind Kind.Count args) local last }
                     { by_words(count(args, local, last)) },
                 )?;
-                body_of(card, Kind::Count, call)
+                body_of(signed, Kind::Count, call)
             }
             Kind::Sink => {
                 let call: Call = Box::new(
@@ -102,7 +103,7 @@ fn make_and_execute<S: Sink, R: Wait + Clock + Threads + Sync>(
                         ensures { result ≡ standard.answer (card_of_kind Kind.Sink args) local last }
                     { by_words(standard_sink(args, local, last)) },
                 )?;
-                body_of(card, Kind::Sink, call)
+                body_of(signed, Kind::Sink, call)
             }
             Kind::Take => {
                 let call: Call = Box::new(
@@ -112,7 +113,7 @@ fn make_and_execute<S: Sink, R: Wait + Clock + Threads + Sync>(
                         ensures { result ≡ standard.answer (card_of_kind Kind.Take args) local last }
                     { by_words(take(args, local, last)) },
                 )?;
-                body_of(card, Kind::Take, call)
+                body_of(signed, Kind::Take, call)
             }
             Kind::Copy => {
                 let call: Call = Box::new(
@@ -121,7 +122,7 @@ fn make_and_execute<S: Sink, R: Wait + Clock + Threads + Sync>(
                         ensures { result ≡ standard.answer (card_of_kind Kind.Copy args) local last }
                     { by_words(copy(args, local, last)) },
                 )?;
-                body_of(card, Kind::Copy, call)
+                body_of(signed, Kind::Copy, call)
             }
             Kind::Prefix => {
                 let call: Call = Box::new(
@@ -130,7 +131,7 @@ fn make_and_execute<S: Sink, R: Wait + Clock + Threads + Sync>(
                         ensures { result ≡ standard.answer (card_of_kind Kind.Prefix args) local last }
                     { by_words(prefix(args, local, last)) },
                 )?;
-                body_of(card, Kind::Prefix, call)
+                body_of(signed, Kind::Prefix, call)
             }
             Kind::Add => {
                 let call: Call = Box::new(
@@ -139,7 +140,7 @@ fn make_and_execute<S: Sink, R: Wait + Clock + Threads + Sync>(
                         ensures { result ≡ standard.answer (card_of_kind Kind.Add args) local last }
                     { by_words(add(args, local, last)) },
                 )?;
-                body_of(card, Kind::Add, call)
+                body_of(signed, Kind::Add, call)
             }
             Kind::Scale => {
                 let call: Call = Box::new(
@@ -148,7 +149,7 @@ fn make_and_execute<S: Sink, R: Wait + Clock + Threads + Sync>(
                         ensures { result ≡ standard.answer (card_of_kind Kind.Scale args) local last }
                     { by_words(scale(args, local, last)) },
                 )?;
-                body_of(card, Kind::Scale, call)
+                body_of(signed, Kind::Scale, call)
             }
             Kind::Weave => {
                 let call: Call = Box::new(
@@ -158,7 +159,7 @@ fn make_and_execute<S: Sink, R: Wait + Clock + Threads + Sync>(
                         ensures { result ≡ standard.answer (card_of_kind Kind.Weave args) local last }
                     { by_words(weave(args, local, last)) },
                 )?;
-                body_of(card, Kind::Weave, call)
+                body_of(signed, Kind::Weave, call)
             }
             Kind::Merge => {
                 let call: Call = Box::new(
@@ -167,7 +168,7 @@ fn make_and_execute<S: Sink, R: Wait + Clock + Threads + Sync>(
                         ensures { result ≡ standard.answer (card_of_kind Kind.Merge args) local last }
                     { by_words(merge(args, local, last)) },
                 )?;
-                body_of(card, Kind::Merge, call)
+                body_of(signed, Kind::Merge, call)
             }
             Kind::Divides => {
                 let call: Call = Box::new(
@@ -177,7 +178,7 @@ fn make_and_execute<S: Sink, R: Wait + Clock + Threads + Sync>(
                         ensures { result ≡ standard.answer (card_of_kind Kind.Divides args) local last }
                     { by_words(divides(args, local, last)) },
                 )?;
-                body_of(card, Kind::Divides, call)
+                body_of(signed, Kind::Divides, call)
             }
             Kind::Switch => {
                 let call: Call = Box::new(
@@ -187,7 +188,7 @@ fn make_and_execute<S: Sink, R: Wait + Clock + Threads + Sync>(
                         ensures { result ≡ standard.answer (card_of_kind Kind.Switch args) local last }
                     { by_words(switch(args, local, last)) },
                 )?;
-                body_of(card, Kind::Switch, call)
+                body_of(signed, Kind::Switch, call)
             }
             Kind::Select => {
                 let call: Call = Box::new(
@@ -196,7 +197,7 @@ fn make_and_execute<S: Sink, R: Wait + Clock + Threads + Sync>(
                         ensures { result ≡ standard.answer (card_of_kind Kind.Select args) local last }
                     { by_words(select(args, local, last)) },
                 )?;
-                body_of(card, Kind::Select, call)
+                body_of(signed, Kind::Select, call)
             }
         };
         bodies.push(body)?;
@@ -205,27 +206,32 @@ fn make_and_execute<S: Sink, R: Wait + Clock + Threads + Sync>(
     Ok(execute(rt, alloc, net, bodies, workers, show, sink))
 }
 
-/// Returns the card of a process, and its kind.
-fn signed_card(cards: &[Card], process: usize) -> (Card, Kind)
+/// A card that has a signature, and its kind.
+#[derive(Clone, Copy)]
+struct SignedCard {
+    card: Card,
+    kind: Kind,
+    ghost signed: { IsSome (signature card) },
+    ghost number: { (row_of kind).number ≡ card.kind },
+}
+
+fn signed_card(cards: &[Card], process: usize) -> SignedCard
     requires signed { All (λ card. IsSome (signature card)) cards.now }
     requires within { process < length cards.now }
-    ensures card { slice_get cards.now process ≡ Some result.0 }
-    ensures signed { IsSome (signature result.0) }
-    ensures kind { (row_of result.1).number ≡ result.0.kind }
+    ensures { slice_get cards.now process ≡ Some result.card }
 {
     let card = cards[process];
     match Kind::numbered(card.kind) {
-        Some(kind) => (card, kind),
+        Some(kind) => SignedCard { card, kind },
         None => unreachable!(),
     }
 }
 
-fn body_of(card: Card, kind: Kind, call: Call) -> StandardBody
-    requires number { (row_of kind).number ≡ card.kind }
-    requires signed { IsSome (signature card) }
-    requires callable { IsCallable (Admitted (card_of_kind kind card.args)) (pre call) }
-    requires answers { Answers (Admitted (card_of_kind kind card.args)) (post call) (standard.answer (card_of_kind kind card.args)) }
-    ensures { result.card ≡ card }
+fn body_of(signed: SignedCard, kind: Kind, call: Call) -> StandardBody
+    requires number { (row_of kind).number ≡ signed.card.kind }
+    requires callable { IsCallable (Admitted (card_of_kind kind signed.card.args)) (pre call) }
+    requires answers { Answers (Admitted (card_of_kind kind signed.card.args)) (post call) (standard.answer (card_of_kind kind signed.card.args)) }
+    ensures { result.card ≡ signed.card }
 {
-    StandardBody::new(card, call)
+    StandardBody::new(signed.card, call)
 }

@@ -6,7 +6,7 @@ use Rattle.kpn_model.specs.declared.token.Token.{Token}
 use Rattle.kpn_model.specs.declared.kinds.Card.{Card}
 use Rattle.kpn_model.specs.declared.history.Entry.{Entry}
 use Rattle.kpn_model.specs.Network.{Family, Network, card_of, channel_of, Admits}
-use Rattle.kpn_model.specs.Semantics.{State, start}
+use Rattle.kpn_model.specs.Semantics.{State, start, tokens, capacity}
 use Rattle.kpn_model.specs.History.{growths}
 use Rattle.kpn_model.specs.Valid.{IsOfSort}
 use Rattle.kpn_state.specs.declared.standing.Standing.{Standing}
@@ -37,6 +37,10 @@ nothing_counted = record { entries = 0; growths = 0 }
 -- the counts after these entries; each stays at 2 ^ 64 - 1 once it is there
 abbrev pub counted : Counts → List Entry → Counts
 counted n E = record { entries = u64_saturate (n.entries + length E); growths = u64_saturate (n.growths + length (growths E)) }
+
+-- the number of tokens in a channel, and its capacity
+abbrev pub fill : FlowView → ℕ → ℕ × ℕ
+fill s c = (length (tokens s.state c), capacity s.state c)
 
 abbrev pub is_among : List ℕ → ℕ → Bool
 is_among channels c = list_any (λ d. d == c) channels

@@ -1,5 +1,5 @@
 -- What feeding and draining a flow does.
-use Rattle.std.specs.Prelude.{◌≡◌, ℕ, ◌<◌, ◌≤◌, Bool, false, List, [], IsTrue, length, map, take, drop}
+use Rattle.std.specs.Prelude.{◌≡◌, ℕ, ◌<◌, ◌≤◌, Bool, false, List, [], Option, IfSome, IfNone, IsTrue, length, map, take, drop}
 use Rattle.kpn_model.specs.declared.token.Token.{Token}
 use Rattle.kpn_model.specs.Network.{Family}
 use Rattle.kpn_model.specs.Semantics.{tokens, capacity}
@@ -21,6 +21,13 @@ module _ (kinds : Family) where
     pub few : count ≤ length batch
     pub fed : Flows kinds s.network s.state (map (Fed c) (take count batch)) t.state
     pub full : count < length batch → capacity t.state c ≤ length (tokens t.state c)
+
+  -- the first token goes out, or c is empty and nothing happens
+  pub record DrainsOne (s : FlowView) (c : ℕ) (result : Option Token) (t : FlowView) : Type 0 where
+    pub same : IsSameFlow s t
+    pub counts : t.counts ≡ s.counts
+    pub drained : IfSome result (λ token. Happens kinds s.network s.state (Drained c token) t.state)
+    pub empty : IfNone result ((t ≡ s) × (tokens s.state c ≡ []))
 
   -- this many tokens go out, to the front of the buffer, and no more only if it is full or c then empty
   pub record DrainsInto (s : FlowView) (c : ℕ) (buffer : List Token) (count : ℕ) (filled : List Token) (t : FlowView) : Type 0 where

@@ -90,15 +90,24 @@ pub fn stops_at_once<B: Body>(bodies: &[B], process: usize) -> bool
     matches!(answer.act, Act::Stop)
 }
 
-fn any_live_writer<B: Body>(net: &Net<B::Kinds>, bodies: &[B], channels: &[usize]) -> bool
-    requires { length bodies.now ≡ length net.now.processes }
-    ensures { result ≡ list_any (has_live_writer (family B.Kinds.Kinds) net.now (map B.card bodies.now)) channels.now }
+/// A network, with as many bodies as it has processes.
+#[derive(Drop)]
+struct Staffed<'a, B: Body> {
+    net: &'a Net<B::Kinds>,
+    bodies: &'a [B],
+    ghost one_each: { length bodies.now ≡ length net.now.processes },
+}
+
+fn any_live_writer<B: Body>(staffed: &Staffed<'_, B>, channels: &[usize]) -> bool
+    ensures { result ≡ list_any (has_live_writer (family B.Kinds.Kinds) staffed.now.net.now (map B.card staffed.now.bodies.now)) channels.now }
 {
-    net.assure_valid();
+    staffed.net.assure_valid();
     let mut rest = channels;
     while let Some((first, later)) = rest.split_first() {
         let channel = *first;
-        if channel < net.channels() && !stops_at_once(bodies, net.ends(channel).writer) {
+        if channel < staffed.net.channels()
+            && !stops_at_once(staffed.bodies, staffed.net.ends(channel).writer)
+        {
             return true;
         }
         rest = later;
@@ -106,15 +115,16 @@ fn any_live_writer<B: Body>(net: &Net<B::Kinds>, bodies: &[B], channels: &[usize
     false
 }
 
-fn any_live_reader<B: Body>(net: &Net<B::Kinds>, bodies: &[B], channels: &[usize]) -> bool
-    requires { length bodies.now ≡ length net.now.processes }
-    ensures { result ≡ list_any (has_live_reader (family B.Kinds.Kinds) net.now (map B.card bodies.now)) channels.now }
+fn any_live_reader<B: Body>(staffed: &Staffed<'_, B>, channels: &[usize]) -> bool
+    ensures { result ≡ list_any (has_live_reader (family B.Kinds.Kinds) staffed.now.net.now (map B.card staffed.now.bodies.now)) channels.now }
 {
-    net.assure_valid();
+    staffed.net.assure_valid();
     let mut rest = channels;
     while let Some((first, later)) = rest.split_first() {
         let channel = *first;
-        if channel < net.channels() && !stops_at_once(bodies, net.ends(channel).reader) {
+        if channel < staffed.net.channels()
+            && !stops_at_once(staffed.bodies, staffed.net.ends(channel).reader)
+        {
             return true;
         }
         rest = later;
@@ -123,24 +133,23 @@ fn any_live_reader<B: Body>(net: &Net<B::Kinds>, bodies: &[B], channels: &[usize
 }
 
 fn end_fault<B: Body>(
-    net: &Net<B::Kinds>,
-    bodies: &[B],
+    staffed: &Staffed<'_, B>,
     inputs: &[usize],
     outputs: &[usize],
 ) -> Option<FlowFault>
-    requires { length bodies.now ≡ length net.now.processes }
-    ensures { result ≡ end_fault (family B.Kinds.Kinds) net.now (map B.card bodies.now) inputs.now outputs.now }
+    ensures { result ≡ end_fault (family B.Kinds.Kinds) staffed.now.net.now (map B.card staffed.now.bodies.now) inputs.now outputs.now }
 {
+    let net = staffed.net;
     if any_no_channel(net, inputs) || any_no_channel(net, outputs) {
         return Some(FlowFault::Channel);
     }
     if has_twice(inputs) || has_twice(outputs) || any_among(inputs, outputs) {
         return Some(FlowFault::Twice);
     }
-    if any_live_writer(net, bodies, inputs) {
+    if any_live_writer(staffed, inputs) {
         return Some(FlowFault::Writer);
     }
-    if any_live_reader(net, bodies, outputs) {
+    if any_live_reader(staffed, outputs) {
         return Some(FlowFault::Reader);
     }
     None
@@ -160,7 +169,7 @@ pub(crate) fn fault_of<B: Body>(
     match misfit(net, bodies) {
         Some(OpenFault::Bodies) => Some(FlowFault::Bodies),
         Some(OpenFault::Card) => Some(FlowFault::Card),
-        Some(OpenFault::Memory) => end_fault(net, bodies, inputs, outputs),
-        None => end_fault(net, bodies, inputs, outputs),
+        Some(OpenFault::Memory) => end_fault(&Staffed { net, bodies }, inputs, outputs),
+        None => end_fault(&Staffed { net, bodies }, inputs, outputs),
     }
 }

@@ -1,5 +1,5 @@
 //! The flow.
-ghost use Rattle.std.specs.Prelude.{◌≡◌, ◌↔◌, ℕ, ◌<◌, length, map, replicate, IfOk, IfErr, OnOk, IfSome, IfNone, IsTrue, true, false, []};
+ghost use Rattle.std.specs.Prelude.{◌≡◌, ◌↔◌, ℕ, ◌<◌, length, map, replicate, IfOk, IfErr, OnOk, IsTrue, true, false};
 ghost use Rattle.std.specs.List.{list_all};
 ghost use Rattle.kpn_model.specs.Network.{channel_of};
 ghost use Rattle.kpn_model.specs.Families.{family};
@@ -9,9 +9,8 @@ ghost use Rattle.kpn_state.specs.declared.standing.Standing.TheVariants.{Ready};
 ghost use Rattle.kpn_state.specs.Standings.{standing, is_busy, parked_answer};
 ghost use Rattle.kpn_machine.specs.Opening.{cards_of};
 ghost use Rattle.kpn_flow.specs.Ends.{AreApart, IsFlowFault};
-ghost use Rattle.kpn_flow.specs.Events.{Happens, Drained};
-ghost use Rattle.kpn_flow.specs.Flows.{flow_view, is_among, nothing_counted, with_ended, AreEnds, IsReached, IsSameFlow, MayFeed, MayFeedAll};
-ghost use Rattle.kpn_flow.specs.Moves.{Feeds, FeedsAll, DrainsInto};
+ghost use Rattle.kpn_flow.specs.Flows.{flow_view, fill, is_among, nothing_counted, with_ended, AreEnds, IsReached, IsSameFlow, MayFeed, MayFeedAll};
+ghost use Rattle.kpn_flow.specs.Moves.{Feeds, FeedsAll, DrainsOne, DrainsInto};
 ghost use Rattle.kpn_flow.specs.Pauses.{Advances, IsStarving, TellWants};
 ghost use Rattle.kpn_flow.specs.Pieces.{IsOneRunInPieces, IsExhausted};
 ghost use Rattle.kpn_flow.specs.Stands.{IsStand};
@@ -254,8 +253,7 @@ impl<B: Body> Flow<B> {
     /// Some(self.flow.tokens_and_capacity(channel))
     /// ```
     pub fn tokens_and_capacity(&self, channel: usize) -> (usize, usize)
-        ensures tokens { result.0 ≡ length (tokens self.now.state channel) }
-        ensures capacity { result.1 ≡ capacity self.now.state channel }
+        ensures { result ≡ fill self.now channel }
     {
         if channel >= self.net.channels() {
             return (0, 0);
@@ -407,10 +405,7 @@ impl<B: Body> Flow<B> {
     /// ```
     pub fn drain(&mut self, channel: usize) -> Option<Token>
         requires { is_among self.old.outputs channel ≡ true }
-        ensures same { IsSameFlow self.old self.new }
-        ensures counts { self.new.counts ≡ self.old.counts }
-        ensures drained { IfSome result (λ token. Happens (family B.Kinds.Kinds) self.old.network self.old.state (Drained channel token) self.new.state) }
-        ensures empty { IfNone result ((self.new ≡ self.old) × (tokens self.old.state channel ≡ [])) }
+        ensures { DrainsOne (family B.Kinds.Kinds) self.old channel result self.new }
     {
         let (held, _) = self.core.store.tokens_and_capacity(channel);
         if held == 0 {

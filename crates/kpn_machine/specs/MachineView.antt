@@ -2,7 +2,7 @@
 use Rattle.std.specs.Prelude.{◌≡◌, ◌≢◌, ℕ, ◌+◌, ◌<◌, ◌≤◌, true, false, List, [], Option, Some, None, length, get_or, set}
 use Rattle.std.specs.List.{list_any, list_all, sum_by}
 use Rattle.kpn_model.specs.declared.kinds.Card.{Card}
-use Rattle.kpn_model.specs.declared.history.Status.TheVariants.{Live}
+use Rattle.kpn_model.specs.declared.history.Status.TheVariants.{Done, Live}
 use Rattle.kpn_model.specs.declared.history.Entry.{Entry}
 use Rattle.kpn_model.specs.declared.history.End.{End}
 use Rattle.kpn_model.specs.declared.history.End.TheVariants.{Budget}
@@ -41,6 +41,13 @@ pub record IsOutAt (net : Network) (M : State) (standings : List Standing) (i : 
 
 abbrev pub IsOut : MachineView → Input → Type 0
 IsOut s i = IsOutAt s.network s.state s.standings i
+
+-- p of a well-typed state has not stopped, and its body is in its slot
+pub record MayGoOut (admits : Admits) (net : Network) (M : State) (bodies : List (Option Card)) (p : ℕ) : Type 0 where
+  pub process : p < length M.processes
+  pub live : status M p ≢ Done
+  pub well_typed : IsWellTyped admits net M
+  pub has_body : get_or bodies p None ≡ Some (card_of net p)
 
 -- a ready process goes out, asked with its card, local state and last token
 pub record TakesOut (s : MachineView) (i : Input) (t : MachineView) : Type 0 where

@@ -1,17 +1,16 @@
 //! The machine.
-ghost use Rattle.std.specs.Prelude.{count_by, ◌≡◌, ◌≢◌, ℕ, List, ◌<◌, ◌≤◌, ◌+◌, ◌↔◌, [], replicate, length, get_or, set, map, option_map, Some, None, IfSome, IfNone, IfErr, IfOk, OnOk, IsTrue};
+ghost use Rattle.std.specs.Prelude.{count_by, ◌≡◌, ◌≢◌, ℕ, List, ◌<◌, ◌≤◌, ◌+◌, ◌↔◌, [], replicate, length, set, map, option_map, Some, None, IfSome, IfNone, IfErr, IfOk, OnOk, IsTrue};
 ghost use Rattle.kpn_model.specs.Network.{card_of};
 ghost use Rattle.kpn_model.specs.Families.{family};
 ghost use Rattle.kpn_model.specs.History.{growths as growths_of};
 ghost use Rattle.kpn_model.specs.Semantics.{status, start, IsPossible};
 ghost use Rattle.kpn_model.specs.declared.kinds.Act.TheVariants.{Stop};
 ghost use Rattle.kpn_machine.specs.Opening.{cards_of, Opens, IsOpenRefused};
-ghost use Rattle.kpn_model.specs.declared.history.Status.TheVariants.{Done, Live};
-ghost use Rattle.kpn_model.specs.Valid.{IsWellTyped};
+ghost use Rattle.kpn_model.specs.declared.history.Status.TheVariants.{Live};
 ghost use Rattle.kpn_state.specs.declared.standing.Standing.TheVariants.{Out, Ready};
 ghost use Rattle.kpn_state.specs.Standings.{standing, is_out, is_ready, StandingsFit};
 ghost use Rattle.kpn_body.specs.Input.{input, answer_to};
-ghost use Rattle.kpn_machine.specs.MachineView.{machine_view, IsOut, IsOutAt, TakesOut, IsFaithful, IsFresh};
+ghost use Rattle.kpn_machine.specs.MachineView.{machine_view, IsOut, IsOutAt, MayGoOut, TakesOut, IsFaithful, IsFresh};
 ghost use Rattle.kpn_commit.specs.declared.outcome.Outcome.{Outcome as OutcomeV};
 ghost use Rattle.kpn_machine.specs.Commits.{Commits, CommitsOn, Appends, EndsAs, ContinuesRun, GoesRound, GoesRounds, GoesOn, TellsEnabled, entries_appended};
 ghost use Rattle.kpn_machine.specs.Finishing.{FinishesAlone};
@@ -270,11 +269,8 @@ fn take_out<B: Body, H: Keeper>(
     bodies: &mut Vec<Option<B>>,
     process: usize,
 ) -> Task<B>
-    requires process { process < length store.now.state.processes }
+    requires may { MayGoOut B.Kinds.admits net.now store.now.state (map (option_map B.card) bodies.old.items) process }
     requires bodies { process < length bodies.old.items }
-    requires live { status store.now.state process ≢ Done }
-    requires well_typed { IsWellTyped B.Kinds.admits net.now store.now.state }
-    requires has_body { get_or (map (option_map B.card) bodies.old.items) process None ≡ Some (card_of net.now process) }
     ensures process { result.process ≡ process }
     ensures card { card_of net.now process ≡ result.card }
     ensures live { status store.now.state process ≡ Live result.local result.last }

@@ -5,7 +5,7 @@ ghost use Rattle.kpn_message.specs.Location.{is_of_description};
 ghost use Rattle.kpn_message.specs.EveryFault.{Adds, Tells, due, due_of, for_each_below, has_wrong_end, has_wrong_process, is_of, is_of_process, stands_alone, subject, told_of};
 
 use crate::location::{Location, channel_has_fault, process_has_fault};
-use crate::message::message_at;
+use crate::message::{Said, message_at};
 use kpn_net::faults::has_fault;
 use kpn_net::{Kinds, NetFault, Sketch};
 use std::alloc::Global;
@@ -200,7 +200,7 @@ fn push_message<K: Kinds>(
         messages.more = messages.more.saturating_add(1);
         return;
     }
-    let Some(text) = message_at::<K>(alloc, sketch, fault, place, kinds) else {
+    let Some(Said { text }) = message_at::<K>(alloc, sketch, fault, place, kinds) else {
         messages.are_all = false;
         return;
     };

@@ -34,7 +34,10 @@ pub fn message_of<K: Kinds>(
         return None;
     }
     match fault {
-        NetFault::NotToml | NetFault::Keys => unless_empty(unread_in(alloc, text, false).ok()?),
+        NetFault::NotToml | NetFault::Keys => {
+            let Said { text: message } = unread_in(alloc, text, false)?;
+            Some(message)
+        }
         _ => {
             let sketch = read_sketch(alloc, text).ok()?;
             message_of_sketch::<K>(alloc, &sketch, fault, kinds)
@@ -60,7 +63,11 @@ pub fn message_of_sketch<K: Kinds>(
 {
     match fault {
         NetFault::NotToml | NetFault::Keys | NetFault::Memory | NetFault::Input => None,
-        _ => message_at::<K>(alloc, sketch, fault, locate::<K>(sketch, fault), kinds),
+        _ => {
+            let place = locate::<K>(sketch, fault);
+            let Said { text } = message_at::<K>(alloc, sketch, fault, place, kinds)?;
+            Some(text)
+        }
     }
 }
 
@@ -80,23 +87,33 @@ fn says_all(fault: NetFault) -> bool
 pub fn message_of_delayed(alloc: Global, text: &[u8]) -> Option<String>
     ensures said { IfSome result (λ message. string_bytes message ≢ []) }
 {
-    unless_empty(unread_in(alloc, text, true).ok()?)
+    let Said { text: message } = unread_in(alloc, text, true)?;
+    Some(message)
 }
 
-/// Returns what is wrong with a text that is not TOML, or else with its keys; nothing if nothing is.
-fn unread_in(alloc: Global, text: &[u8], has_delays: bool) -> Result<String, AllocError> {
+/// A message: it is not empty.
+#[derive(Drop)]
+pub(crate) struct Said {
+    pub(crate) text: String,
+    ghost said: { string_bytes text ≢ [] },
+}
+
+/// Returns what is wrong with a text that is not TOML, or else with its keys; `None` if nothing is, or out of memory.
+fn unread_in(alloc: Global, text: &[u8], has_delays: bool) -> Option<Said> {
     let mut out = String::new(alloc);
     match toml::table_from_slice(alloc, text) {
-        Ok(table) => push_misfit(alloc, &mut out, text, &table, has_delays)?,
-        Err(error) => push_syntax(&mut out, text, &error)?,
+        Ok(table) => push_misfit(alloc, &mut out, text, &table, has_delays).ok()?,
+        Err(error) => push_syntax(&mut out, text, &error).ok()?,
     }
-    Ok(out)
+    unless_empty(out)
 }
 
-fn unless_empty(out: String) -> Option<String>
-    ensures { IfSome result (λ message. string_bytes message ≢ []) }
-{
-    if out.is_empty() { None } else { Some(out) }
+fn unless_empty(text: String) -> Option<Said> {
+    if text.is_empty() {
+        None
+    } else {
+        Some(Said { text })
+    }
 }
 
 /// Appends the syntax error and its place; nothing if out of memory.
@@ -130,9 +147,7 @@ pub(crate) fn message_at<K: Kinds>(
     fault: NetFault,
     place: Location,
     kinds: &str,
-) -> Option<String>
-    ensures said { IfSome result (λ message. string_bytes message ≢ []) }
-{
+) -> Option<Said> {
     let mut out = String::new(alloc);
     push_place::<K>(&mut out, sketch, fault, place, kinds).ok()?;
     unless_empty(out)

@@ -1,6 +1,6 @@
 -- A hand's tasks and answers, with one more and one less.
-use Rattle.std.proofs.Common.{◌≡◌, inl, inr, Bool, true, false, ℕ, ◌+◌, ◌<◌, zero, suc, List, [], ◌∷◌, ◌++◌, length, refl, ap, sym, subst, ◌∙◌, arith, length-append}
-use Rattle.std.specs.Prelude.{◌≢◌, Option, Some, None, IsSome, slice_get, slice_index_or}
+use Rattle.std.proofs.Common.{◌≡◌, inl, inr, ℕ, ◌+◌, ◌<◌, zero, suc, List, [], ◌∷◌, ◌++◌, length, refl, ap, sym, subst, ◌∙◌, arith, length-append}
+use Rattle.std.specs.Prelude.{◌≢◌, Option, Some, None, IsSome, MatchOption, slice_get, slice_index_or}
 use mathlib.Core.List.{IsPrefix}
 use Rattle.kpn_watch.proofs.Fronts.{prefix_self, prefix_trans}
 use Rattle.std.specs.List.{All, sum_by}
@@ -12,10 +12,15 @@ use Rattle.kpn_model.specs.Network.{Family, Network, Admits}
 use Rattle.kpn_body.specs.Input.{Input, answer_to}
 use Rattle.kpn_commit.specs.declared.outcome.Outcome.{Outcome}
 use Rattle.kpn_commit.specs.declared.outcome.Outcome.TheVariants.{Done, Parked, LaidBack}
-use Rattle.kpn_machine.specs.MachineView.{MachineView, TakesOut}
+use Rattle.kpn_machine.specs.MachineView.{MachineView, IsFaithful, TakesOut}
 use Rattle.kpn_machine.specs.Commits.{Commits, Appends, GoesRounds, entries_appended}
-use Rattle.kpn_monitor.specs.Kept.{WasCommitted}
-use Rattle.kpn_monitor.specs.Hands.{AreAnswers, TakesOutAll, GoesOutAgain, Gives, TakesBack, TakesBackAll, GivesBack, WereCommitted}
+use Rattle.atomic_table.specs.Seated.{TableId}
+use Rattle.kpn_watch.specs.Boards.{Published}
+use Rattle.kpn_watch.specs.Phases.{phase_of}
+use Rattle.kpn_watch.specs.declared.progress.Phase.TheVariants.{Running}
+use Rattle.kpn_monitor.specs.Views.{Holding}
+use Rattle.kpn_monitor.specs.Kept.{IsKept, IsShown, WasCommitted}
+use Rattle.kpn_monitor.specs.Hands.{AreAnswers, TakesOutAll, GoesOutAgain, Gives, GivesAll, GivesUpTo, TakesBack, TakesBackAll, GivesBack, WereCommitted}
 
 -- one more task
 pub answers_put : (kinds : Family) (tasks : List Input) (answers : List Answer) (i : Input) → AreAnswers kinds tasks answers → AreAnswers kinds (tasks ++ i ∷ []) answers
@@ -79,22 +84,24 @@ all_one P xs y is p = rw is (one_at P y p)
 pub all_more : {X : Type 0} (P : X → Type 0) (xs ys : List X) (y : X) → ys ≡ xs ++ y ∷ [] → All P xs → P y → All P ys
 all_more P xs ys y is all p = rw is (All-append P xs (y ∷ []) all (one_at P y p))
 
--- the history went on by n entries; if the run had ended, by none, and the end stays
+-- in the same network, the history went on by n entries; if the run had ended, by none, and the end stays
 pub record WentOn (s t : MachineView) (n : ℕ) : Type 0 where
+  pub network : t.network ≡ s.network
   pub history : IsPrefix s.history t.history
   pub count : length t.history ≡ length s.history + n
   pub ended : s.end ≢ None → (t.history ≡ s.history) × (t.end ≡ s.end)
 
 went_nowhere : (s : MachineView) → WentOn s s 0
-went_nowhere s = record { history = prefix_self s.history; count = omega arith; ended = λ stands. (refl, refl) }
+went_nowhere s = record { network = refl; history = prefix_self s.history; count = omega arith; ended = λ stands. (refl, refl) }
 
 pub went_on_once : (kinds : Family) (s : MachineView) (i : Input) (o : Outcome) (t : MachineView) → Commits kinds s i o t → Appends kinds s t (entries_appended o) → WentOn s t (entries_appended o)
-went_on_once kinds s i (Done n) t one more = record { history = (more.entries, sym more.history); count = omega (arith, ap length more.history, length-append s.history more.entries, more.count); ended = λ stands. absurd (stands one.before) }
-went_on_once kinds s i (Parked n) t one more = record { history = (more.entries, sym more.history); count = omega (arith, ap length more.history, length-append s.history more.entries, more.count); ended = λ stands. absurd (stands one.before) }
-went_on_once kinds s i LaidBack t one more = record { history = (more.entries, sym more.history); count = omega (arith, ap length more.history, length-append s.history more.entries, more.count); ended = λ stands. (ap (λ (x : MachineView). x.history) one.1, ap (λ (x : MachineView). x.end) one.1) }
+went_on_once kinds s i (Done n) t one more = record { network = one.network; history = (more.entries, sym more.history); count = omega (arith, ap length more.history, length-append s.history more.entries, more.count); ended = λ stands. absurd (stands one.before) }
+went_on_once kinds s i (Parked n) t one more = record { network = one.network; history = (more.entries, sym more.history); count = omega (arith, ap length more.history, length-append s.history more.entries, more.count); ended = λ stands. absurd (stands one.before) }
+went_on_once kinds s i LaidBack t one more = record { network = ap (λ (x : MachineView). x.network) one.1; history = (more.entries, sym more.history); count = omega (arith, ap length more.history, length-append s.history more.entries, more.count); ended = λ stands. (ap (λ (x : MachineView). x.history) one.1, ap (λ (x : MachineView). x.end) one.1) }
 
 went_on_again : (s m t : MachineView) (a b : ℕ) → WentOn s m a → WentOn m t b → WentOn s t (a + b)
 went_on_again s m t a b one more = record {
+  network = more.network ∙ one.network;
   history = prefix_trans s.history m.history t.history one.history more.history;
   count = omega (arith, one.count, more.count);
   ended = λ stands.
@@ -106,7 +113,7 @@ went_on_again s m t a b one more = record {
 -- processes that go out again append nothing
 went_out : (s : MachineView) (again : List Input) (t : MachineView) (rest : List Input) (r : MachineView) (n : ℕ) → GoesOutAgain s again t rest → WentOn r s n → WentOn r t n
 went_out s again t rest r n (inl same) on = subst (λ (x : MachineView). WentOn r x n) (sym same.1) on
-went_out s again t rest r n (inr one) on = subst (λ (x : MachineView). WentOn r x n) (sym one.2.after) (record { history = on.history; count = on.count; ended = on.ended })
+went_out s again t rest r n (inr one) on = subst (λ (x : MachineView). WentOn r x n) (sym one.2.after) (record { network = on.network; history = on.history; count = on.count; ended = on.ended })
 
 -- if answers were given, the history went on by as many entries as they appended
 pub went_on : (kinds : Family) (s : MachineView) (tasks : List Input) (outcomes : List Outcome) (again : List Input) (t : MachineView) (left : List Input) → Gives kinds s tasks outcomes again t left → WentOn s t (sum_by entries_appended outcomes)
@@ -118,7 +125,7 @@ went_on kinds s (i ∷ tasks) (o ∷ outcomes) again t left all =
 
 -- a process that comes back appends nothing
 came_one : (s : MachineView) (i : Input) (t : MachineView) → TakesBack s i t → (r : MachineView) (n : ℕ) → WentOn r s n → WentOn r t n
-came_one s i t (inl back) r n on = subst (λ (x : MachineView). WentOn r x n) (sym back.1) (record { history = on.history; count = on.count; ended = on.ended })
+came_one s i t (inl back) r n on = subst (λ (x : MachineView). WentOn r x n) (sym back.1) (record { network = on.network; history = on.history; count = on.count; ended = on.ended })
 came_one s i t (inr same) r n on = subst (λ (x : MachineView). WentOn r x n) (sym same.1) on
 
 -- processes that come back append nothing
@@ -136,14 +143,40 @@ gave_all kinds s tasks outcomes t left None is goes_on ended = went_on kinds s t
 gave_all kinds s tasks outcomes t left (Some e) is goes_on ended = gave_on kinds s tasks outcomes t [] (ended (λ none. cc)).1
 
 -- whether the run goes on, has ended or an answer was refused
-pub gave : (kinds : Family) (s : MachineView) (tasks : List Input) (outcomes : List Outcome) (t : MachineView) (left : List Input) (refused : Bool)
-    → (refused ≡ false → t.end ≡ None → Gives kinds s tasks outcomes left t []) → (refused ≡ false → t.end ≢ None → (left ≡ []) × GivesBack kinds s tasks outcomes t []) → (refused ≡ true → GivesBack kinds s tasks outcomes t left) → WentOn s t (sum_by entries_appended outcomes)
-gave kinds s tasks outcomes t left false goes_on ended refused = gave_all kinds s tasks outcomes t left t.end refl (goes_on refl) (ended refl)
-gave kinds s tasks outcomes t left true goes_on ended refused = gave_on kinds s tasks outcomes t left (refused refl)
+pub gave : (kinds : Family) (admits : Admits) (keep : ℕ) (s : MachineView) (old : Holding) (t : MachineView) (new : Holding) (refused : Option Input)
+    → MatchOption refused (GivesAll kinds admits keep s old t new) (GivesUpTo kinds admits s old t new) → WentOn s t (sum_by entries_appended new.outcomes)
+gave kinds admits keep s old t new None all = gave_all kinds s old.tasks new.outcomes t new.tasks t.end refl all.goes_on all.ended
+gave kinds admits keep s old t new (Some i) some = gave_on kinds s old.tasks new.outcomes t (i ∷ new.tasks) some.machine
 
 pub some_end : {X : Type 0} (e : Option X) → IsSome e → e ≢ None
 some_end None some is = absurd (cc)
 some_end (Some x) some is = cc
+
+-- what the lock guards is kept if the history goes on, and so is published and booked
+pub kept_on : (kinds : Family) (admits : Admits) (net : Network) (board : TableId) (s : MachineView) (p : Published) (entries overs : ℕ) (t : MachineView) (q : Published) (booked n : ℕ)
+    → IsKept kinds admits net s entries overs → IsShown board s p → WentOn s t n → IsFaithful kinds admits t → q ≡ record p { entries = t.history; phase = phase_of t.end } → booked ≡ entries + n → IsKept kinds admits net t booked overs × IsShown board t q
+kept_on kinds admits net board s p entries overs t q booked n kept shown on faithful published more = (
+  record {
+    network = on.network ∙ kept.network;
+    faithful = faithful;
+    ended = λ met. subst IsSome (sym (on.ended (some_end s.end (kept.ended met))).1) (kept.ended met);
+    counted = omega (arith, more, kept.counted, on.count);
+  },
+  record {
+    board_is = ap (λ (x : Published). x.board) published ∙ shown.board_is;
+    entries = ap (λ (x : Published). x.entries) published;
+    phase = ap (λ (x : Published). x.phase) published;
+  },
+)
+
+-- a history that goes on may be published
+pub shows_on : (board : TableId) (s : MachineView) (p : Published) (t : MachineView) (n : ℕ) → IsShown board s p → WentOn s t n → IsPrefix p.entries t.history
+shows_on board s p t n shown on = subst (λ l. IsPrefix l t.history) (sym shown.entries) on.history
+
+pub stays_shown : (board : TableId) (s : MachineView) (p : Published) (t : MachineView) (n : ℕ) → IsShown board s p → WentOn s t n → p.phase ≢ Running → (t.history ≡ p.entries) × (phase_of t.end ≡ p.phase)
+stays_shown board s p t n shown on ended =
+    let same = on.ended (λ none. ended (shown.phase ∙ ap phase_of none)) in
+    (same.0 ∙ sym shown.entries, ap phase_of same.1 ∙ sym shown.phase)
 
 -- rounds append as many entries as their outcomes say
 pub rounds_append : (kinds : Family) (s : MachineView) (outcomes : List Outcome) (t : MachineView) → GoesRounds kinds s outcomes t → length t.history ≡ length s.history + sum_by entries_appended outcomes

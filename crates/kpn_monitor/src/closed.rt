@@ -1,23 +1,21 @@
 //! A closed monitor.
-ghost use Rattle.std.specs.Prelude.{◌≡◌, ◌≢◌, length};
+ghost use Rattle.std.specs.Prelude.{◌≡◌, ◌≢◌};
 ghost use Rattle.kpn_model.specs.Families.{family};
 ghost use mathlib.Core.List.{IsPrefix};
 ghost use Rattle.kpn_watch.specs.declared.progress.Phase.TheVariants.{Running};
 ghost use Rattle.kpn_watch.specs.Phases.{phase_of};
 ghost use Rattle.kpn_watch.specs.Shown.{shows};
-ghost use Rattle.kpn_monitor.specs.Kept.{IsShown};
-ghost use Rattle.kpn_machine.specs.MachineView.{IsFaithful};
+ghost use Rattle.kpn_monitor.specs.Kept.{IsClosed, IsShown};
 
 use crate::booked::BookedRun;
 use crate::monitor::Monitor;
-use crate::naming::EntryLedger;
+use crate::naming::{EntryLedger, NamedBoard};
 use crate::seat::Seat;
 use kpn_body::Body;
-use kpn_machine::Chronicle;
 use kpn_model::Kinds;
 use kpn_state::{Keeper, Wide};
-use kpn_watch::{Board, CountingPublisher, Progress, Watcher};
-use std::marker::{Model, PhantomData};
+use kpn_watch::{CountingPublisher, Progress, Watcher};
+use std::marker::Model;
 use std::ops::Deref;
 use std::sync::ledger::Ledger;
 
@@ -59,9 +57,8 @@ impl<B: Body, E: EntryLedger, O: Ledger, H: Keeper> Unclosed<B, E, O, H> {
 #[derive(Drop)]
 pub struct Closed<K: Kinds, E: EntryLedger, H: Keeper = Wide> {
     run: BookedRun<K, H>,
-    board: Board,
+    board: NamedBoard<E>,
     publisher: CountingPublisher,
-    of: PhantomData<E>,
 }
 
 impl<K: Kinds, E: EntryLedger, H: Keeper> Model for Closed<K, E, H> {
@@ -74,7 +71,7 @@ impl<K: Kinds, E: EntryLedger, H: Keeper> Model for Closed<K, E, H> {
 
     ghost view = { λ c. c.run };
 
-    ghost invariant = { λ c. IsClosed (family K.Kinds) K.admits E.net c.run × IsShown E.board c.run.machine c.publisher × (c.board ≡ E.board) };
+    ghost invariant = { λ c. IsClosed (family K.Kinds) K.admits E.net c.run × IsShown E.board c.run.machine c.publisher };
 }
 
 impl<K: Kinds, E: EntryLedger, H: Keeper> Deref for Closed<K, E, H> {
@@ -91,23 +88,18 @@ impl<K: Kinds, E: EntryLedger, H: Keeper> Deref for Closed<K, E, H> {
 
 impl<K: Kinds, E: EntryLedger, H: Keeper> Closed<K, E, H> {
     pub(crate) fn new(
-        chronicle: Chronicle<K, H>,
-        receipts: u64,
-        board: Board,
+        run: BookedRun<K, H>,
+        board: NamedBoard<E>,
         publisher: CountingPublisher,
     ) -> Self
-        requires network { chronicle.network ≡ E.net }
-        requires faithful { IsFaithful (family K.Kinds) K.admits chronicle }
-        requires shown { IsShown E.board chronicle publisher }
-        requires board { board ≡ E.board }
-        requires receipts { length chronicle.history ≡ receipts }
-        ensures { result ≡ record { machine = chronicle; receipts = receipts } }
+        requires closed { IsClosed (family K.Kinds) K.admits E.net run }
+        requires shown { IsShown E.board run.machine publisher }
+        ensures { result ≡ run }
     {
         Closed {
-            run: BookedRun::new(chronicle, receipts),
+            run,
             board,
             publisher,
-            of: PhantomData,
         }
     }
 
@@ -132,7 +124,6 @@ impl<K: Kinds, E: EntryLedger, H: Keeper> Closed<K, E, H> {
             run,
             board: _,
             publisher: _,
-            of: _,
         } = self;
         run
     }

@@ -21,7 +21,6 @@ pub(crate) fn give_one<B: Body, H: Keeper>(
     requires { IsOut machine.old finished }
     ensures commits { Commits (family B.Kinds.Kinds) machine.old finished result machine.new }
     ensures appends { Appends (family B.Kinds.Kinds) machine.old machine.new (entries_appended result) }
-    ensures network { machine.new.network ≡ machine.old.network }
     ensures committed { WasCommitted (family B.Kinds.Kinds) B.Kinds.admits machine.old.network finished result }
 {
     machine.assure_faithful();
@@ -41,23 +40,6 @@ fn give_and_leave<B: Body, H: Keeper>(machine: &mut Machine<B, H>, places: &mut 
     places.note(outcome);
 }
 
-/// Commits the first answer. Its process goes out again at once if it can and fewer than `keep` have.
-#[inline(always)]
-fn give_first<B: Body, H: Keeper>(machine: &mut Machine<B, H>, places: &mut Places<B>, keep: usize)
-    requires { HasFirst machine.old places.old }
-    ensures gave { GivesFirst (family B.Kinds.Kinds) B.Kinds.admits machine.old places.old machine.new places.new }
-    ensures most { length places.old.again ≤ keep → length places.new.again ≤ keep }
-{
-    machine.assure_faithful();
-    if places.kept() < keep {
-        if places.stay(machine) {
-            machine.assure_faithful();
-            return;
-        }
-    }
-    give_and_leave(machine, places);
-}
-
 /// Commits the answers, one after the other. At most `keep` processes that can continue go out again at once.
 /// Stops at an answer that the machine did not ask for, and returns whether there is one.
 #[inline(always)]
@@ -71,7 +53,6 @@ pub(crate) fn give_all<B: Body, H: Keeper>(
     requires few { length places.old.tasks ≤ 64 }
     requires within { places.old.called ≤ length places.old.tasks }
     ensures machine { Gives (family B.Kinds.Kinds) machine.old places.old.tasks places.new.outcomes places.new.again machine.new places.new.tasks }
-    ensures network { machine.new.network ≡ machine.old.network }
     ensures committed { WereCommitted (family B.Kinds.Kinds) B.Kinds.admits machine.old.network places.old.tasks places.new.outcomes places.new.tasks }
     ensures taken { All (WasTaken (family B.Kinds.Kinds) B.Kinds.admits machine.old.network) places.new.again }
     ensures most { length places.new.again ≤ keep }
@@ -83,7 +64,14 @@ pub(crate) fn give_all<B: Body, H: Keeper>(
         if !machine.has_sent(places.first()) {
             return true;
         }
-        give_first(machine, places, keep);
+        machine.assure_faithful();
+        if places.kept() < keep {
+            if places.stay(machine) {
+                machine.assure_faithful();
+                continue;
+            }
+        }
+        give_and_leave(machine, places);
     }
     false
 }
@@ -93,7 +81,6 @@ pub(crate) fn give_all<B: Body, H: Keeper>(
 #[inline(never)]
 pub(crate) fn give_back<B: Body, H: Keeper>(machine: &mut Machine<B, H>, places: &mut Places<B>)
     ensures machine { TakesBackAll machine.old places.old.again machine.new }
-    ensures network { machine.new.network ≡ machine.old.network }
     ensures end { machine.new.end ≡ machine.old.end }
     ensures none { places.new ≡ record places.old { again = [] } }
 {

@@ -3,31 +3,29 @@
 //! Whenever the lock is free, the history is a run of the network; an end is justified and final; the book of
 //! entries totals the length of the history; the run has ended if the book of overs is not empty; and the
 //! history and the phase of its end are published.
-ghost use Rattle.std.specs.Prelude.{ℕ, List, ◌≡◌, ◌≢◌, ◌+◌, ◌^◌, ◌<◌, ◌≤◌, ◌↔◌, [], ◌∷◌, ◌++◌, true, false, length, Some, IfNone, Ok, IfSome, IfOk, IsErr, OnErr, IsSome, MatchResult};
+ghost use Rattle.std.specs.Prelude.{ℕ, ◌≡◌, ◌≢◌, ◌+◌, ◌^◌, ◌<◌, ◌≤◌, [], ◌∷◌, ◌++◌, true, false, length, Some, IfNone, Ok, IfSome, IfOk, IsSome, MatchResult};
 ghost use mathlib.Core.List.{IsPrefix};
 ghost use Rattle.kpn_model.specs.Families.{family};
-ghost use Rattle.std.specs.List.{All, sum_by};
 ghost use Rattle.kpn_model.specs.declared.history.End.{End as EndV};
 ghost use Rattle.kpn_model.specs.Semantics.{State, IsRun};
 ghost use Rattle.kpn_watch.specs.declared.progress.Phase.TheVariants.{Running};
 ghost use Rattle.kpn_watch.specs.Phases.{phase_of};
-ghost use Rattle.kpn_monitor.specs.Kept.{IsShown, HasEnded, WasTaken, WentRounds, FoundNothing};
-ghost use Rattle.kpn_monitor.specs.Hands.{AsksInPlace, CommitsAnswer, Deals, TakesOutAll, GivesBack, Gives, Receives, WereCommitted, answers_of};
+ghost use Rattle.kpn_monitor.specs.Kept.{IsShown, HasEnded, WasTaken, FoundNothing};
+ghost use Rattle.kpn_monitor.specs.Hands.{AsksUnderLock, CommitsAnswer, Deals, ExchangesUnderLock, Receives};
 ghost use Rattle.kpn_body.specs.Input.{Input};
-ghost use Rattle.kpn_commit.specs.declared.outcome.Outcome.{Outcome as OutcomeV};
-ghost use Rattle.kpn_machine.specs.MachineView.{MachineView, IsFaithful, IsFresh, TakesOut};
+ghost use Rattle.kpn_machine.specs.MachineView.{IsFaithful, IsFresh, TakesOut};
 ghost use Rattle.kpn_model.specs.Endings.{MayStand};
-ghost use Rattle.kpn_machine.specs.Commits.{ContinuesRun, GoesRounds, entries_appended};
+ghost use Rattle.kpn_machine.specs.Commits.{entries_appended};
 
 use crate::giving::give_one;
 use crate::hand::{Hand, Sharing};
-use crate::naming::EntryLedger;
+use crate::naming::{EntryLedger, NamedBoard};
 use crate::seat::Seat;
 use kpn_body::{Body, Finished, Task};
 use kpn_machine::{Chronicle, Machine, Outcome, Stranger};
 use kpn_model::End;
 use kpn_state::Keeper;
-use kpn_watch::{Board, CountingPublisher, MOST_WATCHERS, Publisher, WatchFault, Watcher};
+use kpn_watch::{CountingPublisher, MOST_WATCHERS, Publisher, WatchFault, Watcher};
 use std::marker::Model;
 use std::sync::ledger::{Book, Ledger, Share};
 
@@ -153,11 +151,10 @@ impl<B: Body, E: EntryLedger, O: Ledger, H: Keeper> Guarded<B, E, O, H> {
 
     pub(crate) fn commit(
         &mut self,
-        board: &Board,
+        board: &NamedBoard<E>,
         finished: Finished<B>,
         seat: &mut Seat<E, O>,
     ) -> Result<Outcome, Stranger<B>>
-        requires { board.now ≡ E.board }
         ensures { MatchResult result (CommitsAnswer (family B.Kinds.Kinds) B.Kinds.admits E.net self.old.machine seat.old finished self.new.machine seat.new) (λ s. (self.new ≡ self.old) × (seat.new ≡ seat.old) × (s.finished ≡ finished)) }
     {
         if !self.machine.has_asked(&finished) {
@@ -167,34 +164,6 @@ impl<B: Body, E: EntryLedger, O: Ledger, H: Keeper> Guarded<B, E, O, H> {
         publish(&self.machine, &mut self.publisher, board);
         seat.add_entries(&mut self.entries, count_of(outcome));
         Ok(outcome)
-    }
-
-    /// Commits the answers of a hand, publishes and books the new entries. At most `keep` processes go out
-    /// again at once. Stops at an answer that the machine did not ask for, and returns whether there is one.
-    pub(crate) fn give(
-        &mut self,
-        board: &Board,
-        hand: &mut Hand<B>,
-        seat: &mut Seat<E, O>,
-        keep: usize,
-    ) -> bool
-        requires board { board.now ≡ E.board }
-        requires called { hand.old.called ≡ length hand.old.tasks }
-        ensures refused { result ≡ true → GivesBack (family B.Kinds.Kinds) self.old.machine hand.old.tasks hand.new.outcomes self.new.machine hand.new.tasks × WereCommitted (family B.Kinds.Kinds) B.Kinds.admits E.net hand.old.tasks hand.new.outcomes hand.new.tasks }
-        ensures left { result ≡ true → (0 < hand.new.called) × (hand.new.called ≡ length hand.new.tasks) }
-        ensures goes_on { result ≡ false → self.new.machine.end ≡ None → Gives (family B.Kinds.Kinds) self.old.machine hand.old.tasks hand.new.outcomes hand.new.tasks self.new.machine [] }
-        ensures ended { result ≡ false → self.new.machine.end ≢ None → (hand.new.tasks ≡ []) × GivesBack (family B.Kinds.Kinds) self.old.machine hand.old.tasks hand.new.outcomes self.new.machine [] }
-        ensures committed { result ≡ false → WereCommitted (family B.Kinds.Kinds) B.Kinds.admits E.net hand.old.tasks hand.new.outcomes [] }
-        ensures taken { result ≡ false → All (WasTaken (family B.Kinds.Kinds) B.Kinds.admits E.net) hand.new.tasks }
-        ensures most { result ≡ false → (length hand.new.tasks ≤ keep) × (hand.new.called ≡ 0) }
-        ensures seat { seat.new ≡ record seat.old { entries = seat.old.entries + sum_by entries_appended hand.new.outcomes } }
-    {
-        let before = self.machine.entries();
-        let is_refused = hand.give(&mut self.machine, keep);
-        publish(&self.machine, &mut self.publisher, board);
-        let more = self.machine.entries() - before;
-        seat.add_entries(&mut self.entries, more as u64);
-        is_refused
     }
 
     /// Notes in the seat that the run has ended, and returns the end; `None` if it has not, or if the book of
@@ -253,54 +222,44 @@ impl<B: Body, E: EntryLedger, O: Ledger, H: Keeper> Guarded<B, E, O, H> {
         }
     }
 
-    /// Commits the answers of a hand, and fills it again. Returns `None` if it stopped at an answer that the machine did
-    /// not ask for, the first that is left.
+    /// Commits the answers of a hand, publishes and books the new entries, and fills the hand again.
+    ///
+    /// Errors: the machine did not ask for an answer. Stops there, and returns it.
     pub(crate) fn exchange(
         &mut self,
-        board: &Board,
+        board: &NamedBoard<E>,
         hand: &mut Hand<B>,
         seat: &mut Seat<E, O>,
         most: usize,
-    ) -> Option<Next>
-        requires board { board.now ≡ E.board }
+    ) -> Result<Next, Stranger<B>>
         requires called { hand.old.called ≡ length hand.old.tasks }
-        ensures machine { IfSome result (λ _. (m : MachineView) × (again : List Input) × (more : List Input) × (hand.new.tasks ≡ again ++ more) × (m.end ≡ None → Gives (family B.Kinds.Kinds) self.old.machine hand.old.tasks hand.new.outcomes again m []) × (m.end ≢ None → (again ≡ []) × GivesBack (family B.Kinds.Kinds) self.old.machine hand.old.tasks hand.new.outcomes m []) × TakesOutAll m more self.new.machine) }
-        ensures committed { IfSome result (λ _. WereCommitted (family B.Kinds.Kinds) B.Kinds.admits E.net hand.old.tasks hand.new.outcomes []) }
-        ensures refused { IfNone result (GivesBack (family B.Kinds.Kinds) self.old.machine hand.old.tasks hand.new.outcomes self.new.machine hand.new.tasks × WereCommitted (family B.Kinds.Kinds) B.Kinds.admits E.net hand.old.tasks hand.new.outcomes hand.new.tasks) }
-        ensures left { IfNone result ((seat.new.overs ≡ seat.old.overs) × (0 < hand.new.called) × (hand.new.called ≡ length hand.new.tasks)) }
-        ensures seat { (seat.new.parts ≡ seat.old.parts) × (seat.new.entries ≡ seat.old.entries + sum_by entries_appended hand.new.outcomes) }
-        ensures taken { IfSome result (λ _. All (WasTaken (family B.Kinds.Kinds) B.Kinds.admits E.net) hand.new.tasks × (hand.new.called ≡ 0)) }
-        ensures most { IfSome result (λ _. length hand.new.tasks ≤ most) }
-        ensures tasks { result ≡ Some Next.Tasks → (seat.new.overs ≡ seat.old.overs) × (0 < length hand.new.tasks) }
-        ensures nothing { result ≡ Some Next.Nothing → (seat.new.overs ≡ seat.old.overs) × (hand.new.tasks ≡ []) }
-        ensures found { result ≡ Some Next.Nothing → 0 < most → FoundNothing (family B.Kinds.Kinds) B.Kinds.admits E.net }
-        ensures over { (e : EndV) → result ≡ Some (Next.Over e) → (seat.new.overs ≡ 1) × (hand.new.tasks ≡ []) × (self.new.machine.end ≡ Some e) }
-        ensures ended { (e : EndV) → result ≡ Some (Next.Over e) → HasEnded (family B.Kinds.Kinds) B.Kinds.admits E.net e }
+        ensures { ExchangesUnderLock (family B.Kinds.Kinds) B.Kinds.admits E.net most self.old.machine hand.old seat.old self.new.machine hand.new seat.new result }
     {
         let ready = self.machine.ready().saturating_add(hand.len());
         let wanted = hand.sharer.wanted(ready, most, self.sharing());
         // Ready processes have waited, so they come before those that could stay.
         let keep = wanted.min(most).saturating_sub(self.machine.ready());
-        if self.give(board, hand, seat, keep) {
-            return None;
+        let before = self.machine.entries();
+        let refused = hand.give(&mut self.machine, keep);
+        publish(&self.machine, &mut self.publisher, board);
+        let more = self.machine.entries() - before;
+        seat.add_entries(&mut self.entries, more as u64);
+        match refused {
+            Some(finished) => Err(Stranger { finished }),
+            None => Ok(self.deal(hand, seat, most, wanted)),
         }
-        Some(self.deal(hand, seat, most, wanted))
     }
 
     /// Asks ready processes in place, publishes and books the new entries. Without an answer, meets the end
     /// of the run, if there is one.
     pub(crate) fn ask_in_place(
         &mut self,
-        board: &Board,
+        board: &NamedBoard<E>,
         seat: &mut Seat<E, O>,
         most: u64,
         waited: bool,
     ) -> Went
-        requires { board.now ≡ E.board }
-        ensures machine { ContinuesRun (family B.Kinds.Kinds) self.old.machine self.new.machine }
-        ensures went { (outcomes : List OutcomeV) × (length outcomes ≡ answers_of result) × (seat.new.entries ≡ seat.old.entries + sum_by entries_appended outcomes) × GoesRounds (family B.Kinds.Kinds) self.old.machine outcomes self.new.machine × WentRounds (family B.Kinds.Kinds) B.Kinds.admits E.net outcomes }
-        ensures seat { AsksInPlace (family B.Kinds.Kinds) B.Kinds.admits E.net most seat.old seat.new result }
-        ensures over { (e : EndV) → result ≡ Went.Over e → self.new.machine.end ≡ Some e }
+        ensures { AsksUnderLock (family B.Kinds.Kinds) B.Kinds.admits E.net most self.old.machine seat.old self.new.machine seat.new result }
     {
         self.machine.assure_faithful();
         let before = self.machine.entries();
@@ -394,8 +353,7 @@ impl<B: Body, E: EntryLedger, O: Ledger, H: Keeper> Guarded<B, E, O, H> {
         (self.machine.entries() as u64, self.over_count)
     }
 
-    pub(crate) fn watch(&mut self, board: &Board) -> Result<Watcher, WatchFault>
-        requires { board.now ≡ E.board }
+    pub(crate) fn watch(&mut self, board: &NamedBoard<E>) -> Result<Watcher, WatchFault>
         ensures seen { IfOk result (λ w. w ≡ record { board = E.board; entries = self.old.machine.history; phase = phase_of self.old.machine.end }) }
         ensures run { IfOk result (λ w. (M : State) × IsRun (family B.Kinds.Kinds) E.net w.entries M × MayStand (family B.Kinds.Kinds) E.net w.entries M self.old.machine.end) }
         ensures counted { MatchResult result (λ _. (self.old.watchers ≢ MOST_WATCHERS) × (self.new ≡ record self.old { watchers = self.old.watchers + 1 })) (λ _. (self.old.watchers ≡ MOST_WATCHERS) × (self.new ≡ self.old)) }
@@ -433,12 +391,12 @@ impl<B: Body, E: EntryLedger, O: Ledger, H: Keeper> Guarded<B, E, O, H> {
     }
 }
 
-fn publish<B: Body, H: Keeper>(
+fn publish<B: Body, E: EntryLedger, H: Keeper>(
     machine: &Machine<B, H>,
     publisher: &mut CountingPublisher,
-    board: &Board,
+    board: &NamedBoard<E>,
 )
-    requires board { publisher.old.board ≡ board.now }
+    requires board { publisher.old.board ≡ E.board }
     requires goes_on { IsPrefix publisher.old.entries machine.now.history }
     requires ended { publisher.old.phase ≢ Running → (machine.now.history ≡ publisher.old.entries) × (phase_of machine.now.end ≡ publisher.old.phase) }
     ensures published { publisher.new ≡ record publisher.old { entries = machine.now.history; phase = phase_of machine.now.end } }

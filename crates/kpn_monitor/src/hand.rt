@@ -1,10 +1,8 @@
 //! A worker's batch of tasks.
-ghost use Rattle.std.specs.Prelude.{◌≡◌, ◌≢◌, ◌+◌, ◌<◌, ◌≤◌, true, false, [], ◌∷◌, ◌++◌, Some, None, length, slice_get, IfOk, IfNone, IfSome};
-ghost use Rattle.std.specs.List.{All};
+ghost use Rattle.std.specs.Prelude.{◌≡◌, ◌+◌, ◌<◌, ◌≤◌, [], ◌∷◌, ◌++◌, Some, length, slice_get, IfOk, IfNone, IfSome, MatchOption};
 ghost use Rattle.kpn_model.specs.Families.{family};
 ghost use Rattle.kpn_body.specs.Input.{Input};
-ghost use Rattle.kpn_monitor.specs.Kept.{WasTaken};
-ghost use Rattle.kpn_monitor.specs.Hands.{GivesBack, Gives, WereCommitted};
+ghost use Rattle.kpn_monitor.specs.Hands.{GivesAll, GivesUpTo};
 
 use crate::giving::{give_all, give_back};
 use crate::places::{MOST_TASKS, Places};
@@ -105,41 +103,30 @@ impl<B: Body> Hand<B> {
     }
 
     /// Commits the answers, one after the other. At most `keep` processes that can continue go out again at
-    /// once. Stops at an answer that the machine did not ask for, and returns whether there is one: it is the first
-    /// that is left. Then, and if the run has ended, no process goes out again.
-    pub(crate) fn give<H: Keeper>(&mut self, machine: &mut Machine<B, H>, keep: usize) -> bool
+    /// once. Stops at an answer that the machine did not ask for, and returns it. Then, and if the run has
+    /// ended, no process goes out again.
+    pub(crate) fn give<H: Keeper>(
+        &mut self,
+        machine: &mut Machine<B, H>,
+        keep: usize,
+    ) -> Option<Finished<B>>
         requires { self.old.called ≡ length self.old.tasks }
-        ensures refused { result ≡ true → GivesBack (family B.Kinds.Kinds) machine.old self.old.tasks self.new.outcomes machine.new self.new.tasks × WereCommitted (family B.Kinds.Kinds) B.Kinds.admits machine.old.network self.old.tasks self.new.outcomes self.new.tasks }
-        ensures left { result ≡ true → (0 < self.new.called) × (self.new.called ≡ length self.new.tasks) }
-        ensures goes_on { result ≡ false → machine.new.end ≡ None → Gives (family B.Kinds.Kinds) machine.old self.old.tasks self.new.outcomes self.new.tasks machine.new [] }
-        ensures ended { result ≡ false → machine.new.end ≢ None → (self.new.tasks ≡ []) × GivesBack (family B.Kinds.Kinds) machine.old self.old.tasks self.new.outcomes machine.new [] }
-        ensures committed { result ≡ false → WereCommitted (family B.Kinds.Kinds) B.Kinds.admits machine.old.network self.old.tasks self.new.outcomes [] }
-        ensures taken { result ≡ false → All (WasTaken (family B.Kinds.Kinds) B.Kinds.admits machine.old.network) self.new.tasks }
-        ensures most { result ≡ false → (length self.new.tasks ≤ keep) × (self.new.called ≡ 0) }
-        ensures network { machine.new.network ≡ machine.old.network }
+        ensures { MatchOption result (GivesAll (family B.Kinds.Kinds) B.Kinds.admits keep machine.old self.old machine.new self.new) (GivesUpTo (family B.Kinds.Kinds) B.Kinds.admits machine.old self.old machine.new self.new) }
     {
         self.places.forget();
-        let is_refused = give_all(machine, &mut self.places, keep);
-        if is_refused || machine.end().is_some() {
+        if give_all(machine, &mut self.places, keep) {
+            give_back(machine, &mut self.places);
+            let refused = self.places.leave();
+            self.places.close_up();
+            return Some(refused);
+        }
+        if machine.end().is_some() {
             give_back(machine, &mut self.places);
             self.places.close_up();
-        } else {
-            self.places.settle();
+            return None;
         }
-        is_refused
-    }
-
-    /// Removes the first task, which has an answer, and returns both.
-    #[cold]
-    #[inline(never)]
-    pub(crate) fn leave(&mut self) -> Finished<B>
-        requires { 0 < self.old.called }
-        ensures first { self.old.tasks ≡ result ∷ self.new.tasks }
-        ensures rest { (self.old.called ≡ self.new.called + 1) × (self.new.outcomes ≡ self.old.outcomes) }
-    {
-        let finished = self.places.leave();
-        self.places.close_up();
-        finished
+        self.places.settle();
+        None
     }
 
     #[inline]

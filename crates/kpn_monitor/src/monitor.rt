@@ -1,29 +1,27 @@
 //! A machine under a lock.
-ghost use Rattle.std.specs.Prelude.{Bool, ◌≡◌, ◌≢◌, ◌+◌, ◌<◌, ◌≤◌, ◌↔◌, ℕ, List, [], ◌∷◌, Some, Ok, IfOk, IfErr, OnOk, OnErr, IsSome, IsOk, IsTrue, MatchResult, length, slice_get};
+ghost use Rattle.std.specs.Prelude.{◌≡◌, ◌≢◌, ◌↔◌, ℕ, Some, IfOk, IfErr, IsSome, IsOk, IsTrue, length, slice_get};
 ghost use Rattle.kpn_model.specs.Families.{family};
-ghost use Rattle.std.specs.List.{All, sum_by};
-ghost use Rattle.kpn_model.specs.declared.history.End.{End as EndV};
+ghost use Rattle.std.specs.List.{sum_by};
 ghost use Rattle.kpn_model.specs.Semantics.{State, IsRun};
 ghost use mathlib.Core.List.{IsPrefix};
 ghost use Rattle.kpn_watch.specs.declared.progress.Phase.TheVariants.{Running};
 ghost use Rattle.kpn_watch.specs.Shown.{shows};
-ghost use Rattle.kpn_commit.specs.declared.outcome.Outcome.{Outcome as OutcomeV};
-ghost use Rattle.kpn_machine.specs.Commits.{entries_appended};
 ghost use Rattle.kpn_monitor.specs.Views.{AreNamesOf, Shares};
-ghost use Rattle.kpn_monitor.specs.Kept.{AddUp, FoundNothing, HasEnded, IsClosed, WasCommitted, WasTaken, WentRounds};
-ghost use Rattle.kpn_monitor.specs.Hands.{Receives, WereCommitted, answers_of};
+ghost use Rattle.kpn_monitor.specs.Kept.{AddUp, IsClosed};
+ghost use Rattle.kpn_monitor.specs.Hands.{AsksInPlace, BooksAnswer, Exchanges, Receives};
 
+use crate::booked::BookedRun;
 use crate::closed::{Closed, Unclosed};
 use crate::guarded::{Guarded, Next, Taken, Wakes, Went};
 use crate::hand::Hand;
-use crate::naming::EntryLedger;
+use crate::naming::{EntryLedger, NamedBoard};
 use crate::opening::{Opening, OpeningParts};
 use crate::resting::{Rest, Resters, Sighting, next_limit};
 use crate::seat::{Seat, merge, totals_of};
 use kpn_body::{Body, Finished};
 use kpn_machine::{Outcome, Stranger};
 use kpn_state::{Keeper, Wide};
-use kpn_watch::{Board, Progress, WatchFault, Watcher};
+use kpn_watch::{Progress, WatchFault, Watcher};
 use std::hint::spin_loop;
 use std::rt::Clock;
 use std::sync::atomic::{AtomicU64, Ordering};
@@ -53,8 +51,7 @@ pub struct Monitor<B: Body, E: EntryLedger, O: Ledger, H: Keeper = Wide> {
     roused: Condvar,
     /// How many of the threads that ever wanted to rest are awake.
     awake: AtomicU64,
-    board: Board,
-    ghost named: { board ≡ E.board },
+    board: NamedBoard<E>,
 }
 
 // Written out so that dropping a monitor is one call, proved once.
@@ -93,7 +90,7 @@ impl<B: Body, E: EntryLedger, O: Ledger, H: Keeper> Monitor<B, E, O, H> {
             resters: Mutex::new(Resters::new()),
             roused: Condvar::new(),
             awake: AtomicU64::new(0),
-            board,
+            board: NamedBoard::new(board),
         };
         (monitor, Seat::whole(PARTS, entry_share, over_share))
     }
@@ -130,9 +127,7 @@ impl<B: Body, E: EntryLedger, O: Ledger, H: Keeper> Monitor<B, E, O, H> {
         finished: Finished<B>,
         seat: &mut Seat<E, O>,
     ) -> Result<Outcome, Stranger<B>>
-        ensures seat { MatchResult result (λ o. seat.new ≡ record seat.old { entries = seat.old.entries + entries_appended o }) (λ _. seat.new ≡ seat.old) }
-        ensures stranger { IfErr result (λ s. s.finished ≡ finished) }
-        ensures committed { IfOk result (λ o. WasCommitted (family B.Kinds.Kinds) B.Kinds.admits E.net finished o) }
+        ensures { BooksAnswer (family B.Kinds.Kinds) B.Kinds.admits E.net finished seat.old seat.new result }
     {
         let mut guarded = self.state.lock(rt);
         let answer = guarded.commit(&self.board, finished, seat);
@@ -160,18 +155,7 @@ impl<B: Body, E: EntryLedger, O: Ledger, H: Keeper> Monitor<B, E, O, H> {
         most: usize,
     ) -> Result<Next, Stranger<B>>
         requires { hand.old.called ≡ length hand.old.tasks }
-        ensures parts { seat.new.parts ≡ seat.old.parts }
-        ensures entries { seat.new.entries ≡ seat.old.entries + sum_by entries_appended hand.new.outcomes }
-        ensures committed { OnOk result (WereCommitted (family B.Kinds.Kinds) B.Kinds.admits E.net hand.old.tasks hand.new.outcomes []) }
-        ensures stranger { IfErr result (λ s. WereCommitted (family B.Kinds.Kinds) B.Kinds.admits E.net hand.old.tasks hand.new.outcomes (s.finished ∷ hand.new.tasks)) }
-        ensures kept { OnErr result ((seat.new.overs ≡ seat.old.overs) × (hand.new.called ≡ length hand.new.tasks)) }
-        ensures taken { OnOk result (All (WasTaken (family B.Kinds.Kinds) B.Kinds.admits E.net) hand.new.tasks × (hand.new.called ≡ 0)) }
-        ensures most { OnOk result (length hand.new.tasks ≤ most) }
-        ensures tasks { result ≡ Ok Next.Tasks → (seat.new.overs ≡ seat.old.overs) × (0 < length hand.new.tasks) }
-        ensures nothing { result ≡ Ok Next.Nothing → (seat.new.overs ≡ seat.old.overs) × (hand.new.tasks ≡ []) }
-        ensures found { result ≡ Ok Next.Nothing → 0 < most → FoundNothing (family B.Kinds.Kinds) B.Kinds.admits E.net }
-        ensures over { (e : EndV) → result ≡ Ok (Next.Over e) → (seat.new.overs ≡ 1) × (hand.new.tasks ≡ []) }
-        ensures ended { (e : EndV) → result ≡ Ok (Next.Over e) → HasEnded (family B.Kinds.Kinds) B.Kinds.admits E.net e }
+        ensures { Exchanges (family B.Kinds.Kinds) B.Kinds.admits E.net most hand.old seat.old hand.new seat.new result }
     {
         hand.sharer.see_awake(self.awake.load(Ordering::SeqCst));
         let mut guarded = self.lock(rt);
@@ -179,15 +163,10 @@ impl<B: Body, E: EntryLedger, O: Ledger, H: Keeper> Monitor<B, E, O, H> {
         let wakes = guarded.wakes();
         drop(guarded);
         self.wake(wakes);
-        if let Some(Next::Over(_)) = next {
+        if let Ok(Next::Over(_)) = next {
             self.rouse(rt);
         }
-        match next {
-            Some(next) => Ok(next),
-            None => Err(Stranger {
-                finished: hand.leave(),
-            }),
-        }
+        next
     }
 
     /// Asks ready processes in place, and commits each answer, until `most` answers were taken,
@@ -197,13 +176,7 @@ impl<B: Body, E: EntryLedger, O: Ledger, H: Keeper> Monitor<B, E, O, H> {
     /// The seat's share of entries grows by the number of new entries. `On` has the number of answers, 1 to
     /// `most`. Without an answer, if the run has ended, the share of overs is 1.
     pub fn ask_in_place<R: Wait>(&self, rt: &R, seat: &mut Seat<E, O>, most: u64) -> Went
-        ensures went { (outcomes : List OutcomeV) × (length outcomes ≡ answers_of result) × (seat.new.entries ≡ seat.old.entries + sum_by entries_appended outcomes) × WentRounds (family B.Kinds.Kinds) B.Kinds.admits E.net outcomes }
-        ensures parts { seat.new.parts ≡ seat.old.parts }
-        ensures on { (n : ℕ) (w : Bool) → result ≡ Went.On n w → (0 < n) × (n ≤ most) × (seat.new.overs ≡ seat.old.overs) }
-        ensures nowhere { result ≡ Went.Nowhere → seat.new ≡ seat.old }
-        ensures found { result ≡ Went.Nowhere → 0 < most → FoundNothing (family B.Kinds.Kinds) B.Kinds.admits E.net }
-        ensures over { (e : EndV) → result ≡ Went.Over e → seat.new ≡ record seat.old { overs = 1 } }
-        ensures ended { (e : EndV) → result ≡ Went.Over e → HasEnded (family B.Kinds.Kinds) B.Kinds.admits E.net e }
+        ensures { AsksInPlace (family B.Kinds.Kinds) B.Kinds.admits E.net most seat.old seat.new result }
     {
         let free = self.state.try_lock();
         let waited = free.is_none();
@@ -387,7 +360,8 @@ impl<B: Body, E: EntryLedger, O: Ledger, H: Keeper> Monitor<B, E, O, H> {
         let (receipts, _) = guarded.counts();
         if are_booked(&guarded, seats.as_slice()) {
             let (chronicle, publisher) = guarded.into_chronicle();
-            return Ok(Closed::new(chronicle, receipts, board, publisher));
+            let run = BookedRun::new(chronicle, receipts);
+            return Ok(Closed::new(run, board, publisher));
         }
         if are_all(seats.as_slice()) {
             if let Some((mut entry_share, mut over_share)) = merge(seats) {

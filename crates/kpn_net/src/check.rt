@@ -73,7 +73,7 @@ fn process_in<K: Kinds>(alloc: Global, sketch: &ProcessSketch) -> Result<Process
         None => 0,
     };
     Ok(Process {
-        name: copied(alloc, &sketch.name)?,
+        name: Text::new(String::from_str(alloc, sketch.name.as_str())?),
         card: card_with(kind, sketch.args.as_slice()),
     })
 }
@@ -134,7 +134,7 @@ fn channel_in(
     ensures fits { IfOk result (λ c. All Fits c.tokens) }
 {
     Ok(Channel {
-        name: copied(alloc, &sketch.name)?,
+        name: Text::new(String::from_str(alloc, sketch.name.as_str())?),
         writer: index_of(processes, sketch.from.as_str()),
         out: sketch.out.unsigned_abs() as usize,
         reader: index_of(processes, sketch.to.as_str()),
@@ -172,10 +172,4 @@ fn channels_of(
         channels.push(channel_in(alloc, processes, sketch)?)?;
     }
     Ok(channels)
-}
-
-fn copied(alloc: Global, text: &Text) -> Result<Text, AllocError>
-    ensures { IfOk result (λ t. t ≡ text.now) }
-{
-    Ok(Text::new(String::from_str(alloc, text.as_str())?))
 }

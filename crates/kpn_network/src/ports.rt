@@ -1,5 +1,5 @@
 //! A table of the channels at the ports of the processes.
-ghost use Rattle.std.specs.Prelude.{◌≡◌, ◌<◌, length, IfOk, IfSome};
+ghost use Rattle.std.specs.Prelude.{◌≡◌, IfOk};
 ghost use Rattle.kpn_network.specs.Ports.{in_at, out_at, ports_at, HasPorts};
 
 use kpn_model::Channel;
@@ -14,8 +14,7 @@ pub struct Ports {
 
 /// Returns the channel at input `port` of process `p`, searching all channels.
 pub(crate) fn find_in(channels: &[Channel], p: usize, port: usize) -> Option<usize>
-    ensures is { result ≡ in_at channels.now p port }
-    ensures within { IfSome result (λ c. c < length channels.now) }
+    ensures { result ≡ in_at channels.now p port }
 {
     channels
         .iter()
@@ -24,8 +23,7 @@ pub(crate) fn find_in(channels: &[Channel], p: usize, port: usize) -> Option<usi
 
 /// Returns the channel at output `port` of process `p`, searching all channels.
 pub(crate) fn find_out(channels: &[Channel], p: usize, port: usize) -> Option<usize>
-    ensures is { result ≡ out_at channels.now p port }
-    ensures within { IfSome result (λ c. c < length channels.now) }
+    ensures { result ≡ out_at channels.now p port }
 {
     channels.iter().position(|c| c.writer == p && c.out == port)
 }

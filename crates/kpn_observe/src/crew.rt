@@ -1,12 +1,11 @@
 //! Runs by threads of the caller's own.
-ghost use Rattle.std.specs.Prelude.{◌≡◌, ◌+◌, ◌<◌, ◌≤◌, [], length, map, vec_capacity, Ok, IfOk, IfErr, IfNone, MatchResult, OnOk};
+ghost use Rattle.std.specs.Prelude.{◌≡◌, ◌+◌, ◌<◌, ◌≤◌, [], length, map, vec_capacity, Ok, IfOk, IfErr, IfNone, OnOk};
 ghost use Rattle.std.specs.List.{sum_by};
 ghost use Rattle.kpn_model.specs.Families.{family};
-ghost use Rattle.kpn_machine.specs.Commits.{entries_appended};
 ghost use Rattle.kpn_machine.specs.Opening.{cards_of};
 ghost use Rattle.kpn_monitor.specs.Views.{AreNamesOf, Shares};
-ghost use Rattle.kpn_monitor.specs.Kept.{IsClosed, WasCommitted};
-ghost use Rattle.kpn_monitor.specs.Hands.{Receives};
+ghost use Rattle.kpn_monitor.specs.Kept.{IsClosed};
+ghost use Rattle.kpn_monitor.specs.Hands.{BooksAnswer, Receives};
 ghost use Rattle.kpn_run.specs.Runs.{IsWatchedRun};
 ghost use Rattle.kpn_run.specs.Refusals.{IsHandedBack, LacksMemory};
 
@@ -93,9 +92,7 @@ impl<E: EntryLedger, O: Ledger> CrewSeat<E, O> {
         monitor: &Monitor<B, E, O>,
         finished: Finished<B>,
     ) -> Result<Outcome, Stranger<B>>
-        ensures seat { MatchResult result (λ o. self.new ≡ record self.old { entries = self.old.entries + entries_appended o }) (λ _. self.new ≡ self.old) }
-        ensures stranger { IfErr result (λ s. s.finished ≡ finished) }
-        ensures committed { IfOk result (λ o. WasCommitted (family B.Kinds.Kinds) B.Kinds.admits E.net finished o) }
+        ensures { BooksAnswer (family B.Kinds.Kinds) B.Kinds.admits E.net finished self.old self.new result }
     {
         monitor.commit(rt, finished, &mut self.seat)
     }

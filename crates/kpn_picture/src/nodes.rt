@@ -1,9 +1,9 @@
 //! Processes, as boxes, or as points where channels branch.
-ghost use Rattle.std.specs.Prelude.{◌≡◌, ◌++◌, ◌<◌, [], OnOk, IsSome, length, string_bytes};
+ghost use Rattle.std.specs.Prelude.{◌≡◌, ◌++◌, [], OnOk, IsSome, length, string_bytes};
 ghost use Rattle.std.specs.Option.{option_map_or};
 ghost use Rattle.kpn_model.specs.texts.Reports.{lines_upto};
 ghost use Rattle.kpn_picture.specs.Titles.{below};
-ghost use Rattle.kpn_picture.specs.Picture.{argument_part, box_opening, box_title, kind_text, place_label, node_line};
+ghost use Rattle.kpn_picture.specs.Picture.{argument_part, box_opening, box_title, place_label, node_line};
 
 use crate::looks::{process_look, push_closing};
 use crate::points::{is_point, push_point};
@@ -39,30 +39,21 @@ fn push_argument(out: &mut String, card: &Card, arity: usize, k: usize) -> Resul
     }
 }
 
-/// Appends the kind of a card, with its arguments.
-fn push_kind<K: Titled>(out: &mut String, card: &Card) -> Result<(), AllocError>
-    requires { IsSome (K.signature card.now) }
-    ensures { OnOk result (string_bytes out.new ≡ string_bytes out.old ++ kind_text K.title card.now) }
-{
-    let title = K::title(card);
-    let arity = title.arguments;
-    title.push_name(out)?;
-    push_argument(out, card, arity, 0)?;
-    push_argument(out, card, arity, 1)?;
-    push_argument(out, card, arity, 2)?;
-    Ok(())
-}
-
-/// Appends a title, or if it is empty, the kind of a card.
+/// Appends a title, or if it is empty, the kind of a card, with its arguments.
 fn push_box_title<K: Titled>(out: &mut String, card: &Card, title: &str) -> Result<(), AllocError>
     requires { IsSome (K.signature card.now) }
     ensures { OnOk result (string_bytes out.new ≡ string_bytes out.old ++ box_title K.title card.now title.now) }
 {
-    if title.is_empty() {
-        push_kind::<K>(out, card)
-    } else {
-        push_title(out, title)
+    if !title.is_empty() {
+        return push_title(out, title);
     }
+    let kind = K::title(card);
+    let arity = kind.arguments;
+    kind.push_name(out)?;
+    push_argument(out, card, arity, 0)?;
+    push_argument(out, card, arity, 1)?;
+    push_argument(out, card, arity, 2)?;
+    Ok(())
 }
 
 /// Appends the place in which a run left a process, if known.
@@ -93,29 +84,6 @@ fn push_opening(out: &mut String, name: &str) -> Result<(), AllocError>
     write!(out, "  \"{name}\" [label=\"{name}\\n")
 }
 
-fn push_process<K: Titled>(
-    out: &mut String,
-    net: &Net<K>,
-    titles: &[Text],
-    places: &[Place],
-    p: usize,
-) -> Result<(), AllocError>
-    requires { p < length net.now.processes }
-    ensures { OnOk result (string_bytes out.new ≡ string_bytes out.old ++ node_line net.now K.title titles.now places.now p) }
-{
-    let name = process_name(net, p);
-    let place = place_at(places, p);
-    let look = process_look(is_on_cycle(net, places, p), place);
-    if is_point(net, p) {
-        return push_point(out, name, look);
-    }
-    push_opening(out, name)?;
-    push_box_title::<K>(out, &net.card(p), title_at(titles, p))?;
-    push_place(out, net, place)?;
-    push_closing(out, look)?;
-    Ok(())
-}
-
 pub(crate) fn push_processes<K: Titled>(
     out: &mut String,
     net: &Net<K>,
@@ -125,7 +93,17 @@ pub(crate) fn push_processes<K: Titled>(
     ensures { OnOk result (string_bytes out.new ≡ string_bytes out.old ++ lines_upto (node_line net.now K.title titles.now places.now) (length net.now.processes)) }
 {
     for p in 0..net.processes() {
-        push_process(out, net, titles, places, p)?;
+        let name = process_name(net, p);
+        let place = place_at(places, p);
+        let look = process_look(is_on_cycle(net, places, p), place);
+        if is_point(net, p) {
+            push_point(out, name, look)?;
+            continue;
+        }
+        push_opening(out, name)?;
+        push_box_title::<K>(out, &net.card(p), title_at(titles, p))?;
+        push_place(out, net, place)?;
+        push_closing(out, look)?;
     }
     Ok(())
 }

@@ -1,5 +1,5 @@
 -- The counts of a history.
-use Rattle.std.specs.Prelude.{◌≡◌, ℕ, ◌+◌, ◌<◌, List, [], ◌∷◌, ◌++◌, length, get_or, set}
+use Rattle.std.specs.Prelude.{◌≡◌, ℕ, ◌+◌, ◌^◌, ◌<◌, ◌≤◌, List, [], ◌∷◌, ◌++◌, length, get_or, set}
 use Rattle.kpn_model.specs.declared.token.Token.{Token}
 use Rattle.kpn_model.specs.declared.history.Deed.{Deed}
 use Rattle.kpn_model.specs.declared.history.Deed.TheVariants.{Took, Put, Stopped}
@@ -8,6 +8,11 @@ use Rattle.kpn_model.specs.declared.history.Entry.TheVariants.{Did, Grew}
 use Rattle.kpn_model.specs.Network.{Network, channel_of}
 use Rattle.kpn_model.specs.History.{deeds, put_on, stream, taken, growths, grown}
 use Rattle.kpn_report.specs.declared.channel_counts.ChannelCounts.{ChannelCounts}
+
+-- the number of entries, which are fewer than 2 ^ 63
+pub record IsCountOf (E : List Entry) (n : ℕ) : Type 0 where
+  pub count : n ≡ length E
+  pub few : length E < 2 ^ 63
 
 abbrev pub counts_of : Network → List Entry → ℕ → ChannelCounts
 counts_of net E c = record { put = length (put_on E c); taken = length (taken E c); capacity = grown (channel_of net c).capacity (growths E) c }
@@ -27,6 +32,11 @@ KeepsCounts net E channel_counts = Tabulates no_counts (length net.channels) (co
 
 abbrev pub KeepsStreams : Network → List Entry → List (List Token) → Type 0
 KeepsStreams net E streams = Tabulates [] (length net.channels) (stream net E) streams
+
+-- the stream of c; nothing if the network has no such channel
+pub record IsStreamOf (net : Network) (E : List Entry) (c : ℕ) (items : List Token) : Type 0 where
+  pub tokens : c < length net.channels → items ≡ stream net E c
+  pub none : length net.channels ≤ c → items ≡ []
 
 abbrev pub counts_at : List ChannelCounts → ℕ → ChannelCounts
 counts_at channel_counts c = get_or channel_counts c no_counts

@@ -21,9 +21,19 @@ pub(crate) fn counted_tally<K: Kinds>(
     ensures channel_counts { IfOk result (λ t. KeepsCounts net.now tallied.now.entries t.channel_counts.items) }
     ensures growths { IfOk result (λ t. t.growths.items ≡ growths_of tallied.now.entries) }
 {
+    net.assure_valid();
+    let mut channel_counts = Vec::with_capacity(alloc, net.channels())?;
+    for c in 0..net.channels() {
+        let (put, taken) = tallied.put_and_taken(c);
+        channel_counts.push(ChannelCounts {
+            put: put as usize,
+            taken: taken as usize,
+            capacity: net.capacity(c),
+        })?;
+    }
     Ok(Tally {
         steps: counted_steps(alloc, net, tallied)?,
-        channel_counts: counted_channels(alloc, net, tallied)?,
+        channel_counts,
         growths: Vec::new(alloc),
     })
 }
@@ -41,26 +51,4 @@ fn counted_steps<K: Kinds>(
         steps.push(tallied.steps(p))?;
     }
     Ok(steps)
-}
-
-/// Returns the counts of channels that didn't grow.
-fn counted_channels<K: Kinds>(
-    alloc: Global,
-    net: &Net<K>,
-    tallied: &Tallied,
-) -> Result<Vec<ChannelCounts>, AllocError>
-    requires none { growths_of tallied.now.entries ≡ [] }
-    ensures { IfOk result (λ v. KeepsCounts net.now tallied.now.entries v.items) }
-{
-    net.assure_valid();
-    let mut channel_counts = Vec::with_capacity(alloc, net.channels())?;
-    for c in 0..net.channels() {
-        let (put, taken) = tallied.put_and_taken(c);
-        channel_counts.push(ChannelCounts {
-            put: put as usize,
-            taken: taken as usize,
-            capacity: net.capacity(c),
-        })?;
-    }
-    Ok(channel_counts)
 }

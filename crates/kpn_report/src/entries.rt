@@ -1,5 +1,6 @@
 //! Entries of a history, as reports read them.
-ghost use Rattle.std.specs.Prelude.{◌≡◌, ◌<◌, ◌^◌, IfSome, List, get_or, length};
+ghost use Rattle.std.specs.Prelude.{◌≡◌, ◌<◌, IfSome, List, get_or, length};
+ghost use Rattle.kpn_report.specs.Tally.{IsCountOf};
 
 use crate::tallied::Tallied;
 use kpn_model::Entry;
@@ -14,8 +15,7 @@ pub trait Entries {
 
     /// Returns the number of entries.
     fn count(&self) -> usize
-        ensures count { result ≡ length (entries self.now) }
-        ensures few { length (entries self.now) < 2 ^ 63 };
+        ensures { IsCountOf (entries self.now) result };
 
     /// Returns the entry at a place, counted from 0.
     fn entry(&self, place: usize) -> Entry

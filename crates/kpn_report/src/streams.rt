@@ -1,7 +1,7 @@
 //! The streams of the channels.
-ghost use Rattle.std.specs.Prelude.{◌≡◌, ◌<◌, ◌≤◌, ◌++◌, ◌∷◌, [], length, IfOk, OnOk};
-ghost use Rattle.kpn_model.specs.History.{stream, put_on};
-ghost use Rattle.kpn_report.specs.Tally.{KeepsStreams, streams_after};
+ghost use Rattle.std.specs.Prelude.{◌≡◌, ◌++◌, ◌∷◌, [], IfOk, OnOk};
+ghost use Rattle.kpn_model.specs.History.{put_on};
+ghost use Rattle.kpn_report.specs.Tally.{IsStreamOf, KeepsStreams, streams_after};
 
 use crate::entries::{Entries, Slice};
 use kpn_model::{Deed, Entry, Kinds, Listed, Token};
@@ -103,8 +103,7 @@ pub fn stream_of<K: Kinds>(
     history: &[Entry],
     channel: usize,
 ) -> Result<Vec<Token>, AllocError>
-    ensures tokens { channel < length net.now.channels → IfOk result (λ v. v.items ≡ stream net.now history.now channel) }
-    ensures none { length net.now.channels ≤ channel → IfOk result (λ v. v.items ≡ []) }
+    ensures { IfOk result (λ v. IsStreamOf net.now history.now channel v.items) }
 {
     stream_of_entries(alloc, net, &Slice { history }, channel)
 }
@@ -120,8 +119,7 @@ pub fn stream_of_entries<K: Kinds, E: Entries>(
     history: &E,
     channel: usize,
 ) -> Result<Vec<Token>, AllocError>
-    ensures tokens { channel < length net.now.channels → IfOk result (λ v. v.items ≡ stream net.now (E.entries history.now) channel) }
-    ensures none { length net.now.channels ≤ channel → IfOk result (λ v. v.items ≡ []) }
+    ensures { IfOk result (λ v. IsStreamOf net.now (E.entries history.now) channel v.items) }
 {
     if channel >= net.channels() {
         return Ok(Vec::new(alloc));

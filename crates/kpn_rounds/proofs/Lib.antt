@@ -1,2 +1,1 @@
 pub mod RoundedLawful
-pub mod NextTurns

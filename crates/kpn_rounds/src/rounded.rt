@@ -1,5 +1,4 @@
 //! The family of kinds that go in rounds.
-ghost use Rattle.std.specs.Prelude.{◌≡◌};
 ghost use Rattle.kpn_rounds.specs.Rounds.{rounds_family, RoundsAdmit};
 
 use crate::numbers::Numbers;
@@ -61,22 +60,16 @@ impl<R: Rounds> Computes for Rounded<R> {
             Turn::Reads(inputs) => reading(&ports, local, inputs),
             Turn::Writes(left) => writes(&ports, local, left),
             Turn::Steps(inputs) => {
-                let (kept, made) = R::step(copied(card), carried(&ports, local), inputs.words());
+                // A call gets its arguments as places in memory: the step gets those of a copy, and the card itself, which
+                // other families read too, stays in registers.
+                let [first, second, third] = card.args;
+                let copy = Card {
+                    kind: card.kind,
+                    args: [first, second, third],
+                };
+                let (kept, made) = R::step(copy, carried(&ports, local), inputs.words());
                 writes(&ports, kept, Numbers::first(count(&ports.outs), made))
             }
         }
-    }
-}
-
-/// Copies a card word by word. A call gets its arguments as places in memory, and so a step that is a call gets those of
-/// the copy: the card itself, which other families read too, stays in registers.
-#[inline(always)]
-fn copied(card: Card) -> Card
-    ensures { result ≡ card }
-{
-    let [first, second, third] = card.args;
-    Card {
-        kind: card.kind,
-        args: [first, second, third],
     }
 }

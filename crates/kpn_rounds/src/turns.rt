@@ -2,8 +2,8 @@
 ghost use Rattle.std.specs.Prelude.{◌≡◌, ◌<◌, ◌≤◌, ◌++◌, ℕ, List, true, false, [], length};
 ghost use Rattle.kpn_rounds.specs.Steps.{count};
 ghost use Rattle.kpn_rounds.specs.Numbers.{list_of};
-ghost use Rattle.kpn_rounds.specs.Rounds.{latest, carried, packed, with_inputs, with_outputs, held, left_in, reading, write_answer};
-ghost use Rattle.kpn_rounds.specs.Turns.{IsReadTurn, IsTurn, LeavesFew};
+ghost use Rattle.kpn_rounds.specs.Rounds.{latest, carried, packed, with_inputs, with_outputs, left_in, read_in, reading, write_answer};
+ghost use Rattle.kpn_rounds.specs.Turns.{IsTurn, LeavesFew};
 
 use crate::numbers::Numbers;
 use crate::ports::{count, is_narrow, is_wide, number, token_at};
@@ -60,12 +60,14 @@ fn latest(last: Option<Token>) -> Numbers
     }
 }
 
-/// Returns the inputs that were read in this round, with the last token, in the local state of a process with two or
-/// more inputs or outputs.
+/// Returns the inputs that were read in this round, with the last token.
 #[inline(always)]
-fn inputs_of(local: Local, last: Option<Token>) -> Numbers
-    ensures { list_of result ≡ held ONE_READ TWO_READ local ++ latest last }
+fn inputs_of(ports: &Signature, local: Local, last: Option<Token>) -> Numbers
+    ensures { list_of result ≡ read_in ports.now local ++ latest last }
 {
+    if is_narrow(ports) {
+        return latest(last);
+    }
     let [_, second, first, phase] = local;
     match (phase, last) {
         (ONE_READ, None) => Numbers::One(first),
@@ -77,11 +79,14 @@ fn inputs_of(local: Local, last: Option<Token>) -> Numbers
     }
 }
 
-/// Returns the outputs that are left to be written in this round, in the local state of such a process.
+/// Returns the outputs that are left to be written in this round.
 #[inline(always)]
-fn left_in(local: Local) -> Numbers
-    ensures { list_of result ≡ held ONE_LEFT TWO_LEFT local }
+fn left_in(ports: &Signature, local: Local) -> Numbers
+    ensures { list_of result ≡ left_in ports.now local }
 {
+    if is_narrow(ports) {
+        return Numbers::None;
+    }
     let [_, second, first, phase] = local;
     match phase {
         ONE_LEFT => Numbers::One(first),
@@ -174,33 +179,24 @@ pub(crate) fn reading(ports: &Signature, kept: Local, inputs: Numbers) -> Answer
     }
 }
 
-/// Returns the turn of a process that read these inputs in this round: it reads the next one, or steps.
-#[inline(always)]
-fn reads(ports: &Signature, inputs: Numbers) -> Turn
-    ensures is { (kept : List ℕ) → IsReadTurn ports.now kept (list_of inputs) result }
-    ensures few { LeavesFew ports.now result }
-{
-    let port = inputs.count();
-    if port < count(&ports.ins) {
-        Turn::Reads(inputs)
-    } else {
-        Turn::Steps(inputs)
-    }
-}
-
-/// Returns the turn of a process in this local state, after it read `last` (`None` if its last act was no read). No
-/// more outputs may be left than there are.
+/// Returns the turn of a process in this local state, after it read `last` (`None` if its last act was no read): it reads
+/// the next input, steps, or writes. No more outputs may be left than there are.
 #[inline(always)]
 pub(crate) fn next_turn(ports: &Signature, local: Local, last: Option<Token>) -> Turn
     requires { length (left_in ports.now local) ≤ count ports.now.outs }
     ensures is { IsTurn ports.now local last result }
     ensures few { LeavesFew ports.now result }
 {
-    if is_narrow(ports) {
-        return reads(ports, latest(last));
-    }
-    match left_in(local) {
-        Numbers::None => reads(ports, inputs_of(local, last)),
+    match left_in(ports, local) {
+        Numbers::None => {
+            let inputs = inputs_of(ports, local, last);
+            let port = inputs.count();
+            if port < count(&ports.ins) {
+                Turn::Reads(inputs)
+            } else {
+                Turn::Steps(inputs)
+            }
+        }
         left => Turn::Writes(left),
     }
 }

@@ -1,6 +1,6 @@
 //! Bodies that stay in place while their tasks move between the machine and the workers.
-ghost use Rattle.std.specs.Prelude.{◌≡◌, ◌≤◌, ◌+◌, ◌++◌, [], length, vec_capacity, true, IfOk, IfErr};
-ghost use Rattle.std.specs.VecDeque.{deque_capacity, deque_len};
+ghost use Rattle.std.specs.Prelude.{◌≡◌, ◌≤◌, ◌+◌, ◌++◌, [], length, vec_capacity, IfOk, IfErr};
+ghost use Rattle.std.specs.VecDeque.{deque_len};
 
 use kpn_body::Body;
 use kpn_model::{Answer, Card, Local, Token};
@@ -55,25 +55,30 @@ pub(crate) struct Boxes<B: Body> {
 }
 
 /// Moves bodies to the heap. Errors: out of memory; returns the bodies.
-pub(crate) fn box_all<B: Body>(alloc: Global, bodies: Vec<B>) -> Result<Boxes<B>, Vec<B>>
+pub(crate) fn box_all<B: Body>(alloc: Global, mut bodies: Vec<B>) -> Result<Boxes<B>, Vec<B>>
     ensures boxed { IfOk result (λ r. r.boxed.items ≡ bodies.items) }
     ensures spare { IfOk result (λ r. r.spare.items ≡ []) }
     ensures room { IfOk result (λ r. length bodies.items ≤ vec_capacity r.spare) }
     ensures back { IfErr result (λ v. v.items ≡ bodies.items) }
 {
-    let mut bodies = bodies;
     let Ok(mut boxed) = VecDeque::with_capacity(alloc, bodies.len()) else {
         return Err(bodies);
     };
-    if box_each(alloc, &mut bodies, &mut boxed) {
-        Ok(Boxes {
-            boxed: boxed.into_vec(),
-            spare: bodies,
-        })
-    } else {
-        unbox_each(&mut boxed, &mut bodies);
-        Err(bodies)
+    // The last first, each to the front of `boxed`.
+    while let Some(body) = bodies.pop() {
+        match Box::new(alloc, body) {
+            Ok(body) => boxed.push_front_reserved(BoxedBody { body }),
+            Err(AllocFailed { value }) => {
+                bodies.push_reserved(value);
+                unbox_each(&mut boxed, &mut bodies);
+                return Err(bodies);
+            }
+        }
     }
+    Ok(Boxes {
+        boxed: boxed.into_vec(),
+        spare: bodies,
+    })
 }
 
 /// Moves bodies from the heap back into the emptied vector that they came from.
@@ -86,26 +91,6 @@ pub(crate) fn unbox_all<B: Body>(boxed: Vec<BoxedBody<B>>, spare: Vec<B>) -> Vec
     let mut bodies = spare;
     unbox_each(&mut boxed, &mut bodies);
     bodies
-}
-
-// Moves bodies to the heap, the last first, to the front of `boxed`. Returns false if out of memory.
-fn box_each<B: Body>(alloc: Global, bodies: &mut Vec<B>, boxed: &mut VecDeque<BoxedBody<B>>) -> bool
-    requires { length bodies.old.items + deque_len boxed.old ≤ deque_capacity boxed.old }
-    ensures order { bodies.new.items ++ boxed.new.items ≡ bodies.old.items ++ boxed.old.items }
-    ensures all { result ≡ true → bodies.new.items ≡ [] }
-    ensures count { length bodies.new.items + deque_len boxed.new ≡ length bodies.old.items + deque_len boxed.old }
-    ensures room { vec_capacity bodies.new ≡ vec_capacity bodies.old }
-{
-    while let Some(body) = bodies.pop() {
-        match Box::new(alloc, body) {
-            Ok(body) => boxed.push_front_reserved(BoxedBody { body }),
-            Err(AllocFailed { value }) => {
-                bodies.push_reserved(value);
-                return false;
-            }
-        }
-    }
-    true
 }
 
 fn unbox_each<B: Body>(boxed: &mut VecDeque<BoxedBody<B>>, bodies: &mut Vec<B>)

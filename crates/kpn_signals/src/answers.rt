@@ -14,6 +14,7 @@ use crate::noise::noise;
 use crate::rates::{decimate, gate, repeat};
 use crate::signal::Signal;
 use crate::signs::{bound, word_below};
+use crate::times::Times;
 use crate::turns::{reads, stops};
 use kpn_model::{Answer, Local, Token};
 
@@ -39,10 +40,10 @@ pub fn answer(kind: Signal, args: [u64; 3], local: Local, last: Option<Token>) -
         Signal::Not => not(local, last),
         Signal::And => and(local, last),
         Signal::Or => or(local, last),
-        Signal::Decimate => decimate(a, local, last),
-        Signal::Repeat => repeat(a, local, last),
+        Signal::Decimate => decimate(Times { number: a }, local, last),
+        Signal::Repeat => repeat(Times { number: a }, local, last),
         Signal::Hold => hold(local, last),
-        Signal::Delay => delay(a, local, last),
+        Signal::Delay => delay(Times { number: a }, local, last),
         Signal::LowPass => low_pass(Bits::new(a), local, last),
         Signal::Clip => clip(a, b, local, last),
         Signal::SignedConstant => constant(word_below(a), local),
@@ -60,7 +61,7 @@ pub fn answer(kind: Signal, args: [u64; 3], local: Local, last: Option<Token>) -
         Signal::Mod => remainder(local, last),
         Signal::Sum => sum(local, last),
         Signal::Difference => difference(local, last),
-        Signal::Average => average(a, local, last),
+        Signal::Average => average(Times { number: a }, local, last),
         Signal::Counter => counter(local, last),
         Signal::Edge => edge(local, last),
         Signal::Noise => noise(local),

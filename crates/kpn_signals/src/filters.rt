@@ -5,6 +5,7 @@ ghost use Rattle.kpn_signals.specs.Shapes.{step_answer, join_answer};
 ghost use Rattle.kpn_signals.specs.Filters.{hold_join, delay_step, low_pass_step, clip_step, sum_step, difference_step, mean, average_step, counter_step};
 
 use crate::bits::Bits;
+use crate::times::Times;
 use crate::turns::{flag, joined, latest, number, reads, word, writes_word};
 use crate::wide::{floor_div, signed, wrapped};
 use kpn_model::{Answer, Local, Token};
@@ -18,12 +19,12 @@ pub(crate) fn hold(local: Local, last: Option<Token>) -> Answer
     joined(local, last, choice, Token::Word(choice))
 }
 
-/// Reads a word, and writes the one `n` words earlier (1 to 4), or 0 if there is none, forever.
-pub(crate) fn delay(n: u64, local: Local, last: Option<Token>) -> Answer
-    requires least { 0 < n }
-    requires greatest { n ≤ 4 }
-    ensures { result ≡ step_answer (delay_step n) local last }
+/// Reads a word, and writes the one so many words earlier (1 to 4), or 0 if there is none, forever.
+pub(crate) fn delay(words: Times, local: Local, last: Option<Token>) -> Answer
+    requires { words.number ≤ 4 }
+    ensures { result ≡ step_answer (delay_step words.number) local last }
 {
+    let n = words.number;
     let [first, second, third, _] = local;
     match last {
         None => reads(local),
@@ -91,13 +92,13 @@ pub(crate) fn difference(local: Local, last: Option<Token>) -> Answer
     }
 }
 
-/// Reads a word, and writes the mean of the last `n` words (1 to 5), rounded down, signed, forever. Before the
+/// Reads a word, and writes the mean of the last so many words (1 to 5), rounded down, signed, forever. Before the
 /// first word there were zeros.
-pub(crate) fn average(n: u64, local: Local, last: Option<Token>) -> Answer
-    requires least { 0 < n }
-    requires greatest { n ≤ 5 }
-    ensures { result ≡ step_answer (average_step n) local last }
+pub(crate) fn average(words: Times, local: Local, last: Option<Token>) -> Answer
+    requires { words.number ≤ 5 }
+    ensures { result ≡ step_answer (average_step words.number) local last }
 {
+    let n = words.number;
     match last {
         None => reads(local),
         Some(token) => {

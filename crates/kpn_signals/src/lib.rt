@@ -20,6 +20,7 @@ mod rates;
 pub mod signal;
 pub mod signals;
 mod signs;
+mod times;
 pub mod turns;
 mod wide;
 pub mod words;

@@ -1,15 +1,16 @@
 //! The kinds that write fewer or more words than they read: each function returns its kind's answer.
-ghost use Rattle.std.specs.Prelude.{◌≡◌, ◌<◌};
+ghost use Rattle.std.specs.Prelude.{◌≡◌};
 ghost use Rattle.kpn_signals.specs.Rates.{decimate_answer, repeat_answer, gate_answer};
 
+use crate::times::Times;
 use crate::turns::{READS_FIRST, READS_SECOND, WRITES, flag, latest, reads, word, writes_word};
 use kpn_model::{Act, Answer, Local, Token};
 
-/// Writes the first of each `n` words, forever.
-pub(crate) fn decimate(n: u64, local: Local, last: Option<Token>) -> Answer
-    requires { 0 < n }
-    ensures { result ≡ decimate_answer n local last }
+/// Writes the first of each so many words, forever.
+pub(crate) fn decimate(times: Times, local: Local, last: Option<Token>) -> Answer
+    ensures { result ≡ decimate_answer times.number local last }
 {
+    let n = times.number;
     let [passes_over, _, _, _] = local;
     match last {
         None => reads([passes_over, 0, 0, 0]),
@@ -18,11 +19,11 @@ pub(crate) fn decimate(n: u64, local: Local, last: Option<Token>) -> Answer
     }
 }
 
-/// Writes each word `n` times, forever.
-pub(crate) fn repeat(n: u64, local: Local, last: Option<Token>) -> Answer
-    requires { 0 < n }
-    ensures { result ≡ repeat_answer n local last }
+/// Writes each word this many times, forever.
+pub(crate) fn repeat(times: Times, local: Local, last: Option<Token>) -> Answer
+    ensures { result ≡ repeat_answer times.number local last }
 {
+    let n = times.number;
     let [times, value, _, _] = local;
     match last {
         None if times == 0 => reads([0, value, 0, 0]),

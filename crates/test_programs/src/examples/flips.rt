@@ -2,7 +2,7 @@
 ghost use Rattle.std.specs.Prelude.{◌≡◌, ◌<◌, All, IsSome, IfOk, IfSome, OnErr, Some, length, option_map, slice_get};
 ghost use Rattle.kpn_machine.specs.Opening.{cards_of};
 ghost use Rattle.kpn_execute.specs.Execution.{Executes};
-ghost use Rattle.example_own_kinds.specs.Flip.{ports, FlipLine, flip, flips};
+ghost use Rattle.example_own_kinds.specs.Flip.{ports, flip, flips};
 
 use example_own_kinds::{FlipBody, Flips, line_of};
 use kpn_body::Call;
@@ -44,7 +44,6 @@ pub(crate) fn run_flips<S: Sink, R: Wait + Clock + Threads + Sync>(
         let call: Call = Box::new(
             alloc,
             move |local: Local, last: Option<Token>| -> Answer
-                requires { FlipLine local last }
                 ensures { result ≡ flips.answer flip local last }
             { line_of(last) },
         )?;

@@ -5,9 +5,9 @@ use Rattle.kpn_execute.proofs.standard.make_and_execute.Goals as goal
 
 pub loop-process-preserved : goal.loop-process-preserved
 loop-process-preserved g c =
-    let card_is : c.match-kind.body.card ≡ c.signed_card-kind.result.0 = grind arith in
+    let card_is : c.match-kind.body.card ≡ c.signed_card-signed.result.card = grind arith in
     record {
-      first = one_more (λ b. b.card) _ _ _ _ c.match-kind.body c.loop-process.invariant.first c.in_ok-push.ensures.items (c.signed_card-kind.ensures.card ∙ ap (λ x. Some x) (sym card_is));
+      first = one_more (λ b. b.card) _ _ _ _ c.match-kind.body c.loop-process.invariant.first c.in_ok-push.ensures.items (c.signed_card-signed.ensures ∙ ap (λ x. Some x) (sym card_is));
       same = c.loop-process.invariant.same;
     }
 

@@ -5,7 +5,7 @@ use Rattle.kpn_flow.specs.Ends.{has_live_writer}
 use Rattle.kpn_flow.proofs.ends.any_live_writer.Given as goal
 
 abbrev pub invariant-loop-first : goal.invariant-loop-first
-invariant-loop-first g l = list_any (has_live_writer (family_of g.B.Kinds.Kinds.start g.B.Kinds.Kinds.answer_of) l.net (map g.B.Body.card l.bodies)) l.channels ≡ list_any (has_live_writer (family_of g.B.Kinds.Kinds.start g.B.Kinds.Kinds.answer_of) l.net (map g.B.Body.card l.bodies)) l.rest
+invariant-loop-first g l = list_any (has_live_writer (family_of g.B.Kinds.Kinds.start g.B.Kinds.Kinds.answer_of) l.staffed.net.now (map g.B.Body.card l.staffed.bodies.now)) l.channels ≡ list_any (has_live_writer (family_of g.B.Kinds.Kinds.start g.B.Kinds.Kinds.answer_of) l.staffed.net.now (map g.B.Body.card l.staffed.bodies.now)) l.rest
 
 abbrev pub decreases-loop-first : goal.decreases-loop-first
 decreases-loop-first g l = length l.rest

@@ -1,6 +1,7 @@
 -- Found without an answer too; with it a wrong body is refused at once.
-use Rattle.std.proofs.Common.{rules}
+use Rattle.std.proofs.Common.{arith}
+use Rattle.std.proofs.lemmas.Grind.{common_steps}
 use Rattle.kpn_run.proofs.boxed.box_all.Goals as goal
 
-pub returns-else-box_each-clause-back : goal.returns-else-box_each-clause-back
-returns-else-box_each-clause-back g c = search rules
+pub loop-body-preserved : goal.loop-body-preserved
+loop-body-preserved g c = grind (arith, common_steps)

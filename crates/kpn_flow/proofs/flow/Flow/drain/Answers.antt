@@ -1,5 +1,6 @@
 -- A token that goes out is an event.
-use Rattle.std.proofs.Common.{◌≡◌, drop, map, refl, ap, true, arith}
+use Rattle.std.proofs.Common.{◌≡◌, drop, map, refl, ap, true, arith, rules}
+use Rattle.std.proofs.lemmas.List.{nil_from_length}
 use Rattle.std.specs.Option.{option_map}
 use Rattle.kpn_model.specs.Network.{family_of}
 use Rattle.kpn_model.specs.Semantics.{tokens, capacity, with_channel}
@@ -23,9 +24,6 @@ invariant_of-self g c =
       c.drain-token.ensures.wakes.coherent.waiting,
     )
 
-pub returns-clause-drained : goal.returns-clause-drained
-returns-clause-drained g c = rw (← c.self.view_is) ((_, c.drain-token.ensures.token), ap (λ (x : StateAndHistory). x.state) c.drain-token.ensures.wakes.store)
-
 pub drain-token-requires-after_bounds : goal.drain-token-requires-after_bounds
 drain-token-requires-after_bounds g c κs within =
     let flow = c.self.invariant.0 in
@@ -36,8 +34,18 @@ drain-token-requires-after_bounds g c κs within =
       some = omega (arith, c.tokens_and_capacity-held.ensures.tokens);
     }
 
-pub returns-clause-same : goal.returns-clause-same
-returns-clause-same g c = rw (← c.self.view_is) (record { network = refl; inputs = refl; unended = refl; outputs = refl })
+pub returns-then-held-eq0 : goal.returns-then-held-eq0
+returns-then-held-eq0 g c = record {
+  same = search rules;
+  counts = search rules;
+  drained = search rules;
+  empty = rw (← c.self.view_is) (refl, nil_from_length _ (omega (arith, c.tokens_and_capacity-held.ensures.tokens)));
+}
 
-pub returns-clause-counts : goal.returns-clause-counts
-returns-clause-counts g c = rw (← c.self.view_is) refl
+pub returns : goal.returns
+returns g c = record {
+  same = rw (← c.self.view_is) (record { network = refl; inputs = refl; unended = refl; outputs = refl });
+  counts = rw (← c.self.view_is) refl;
+  drained = rw (← c.self.view_is) ((_, c.drain-token.ensures.token), ap (λ (x : StateAndHistory). x.state) c.drain-token.ensures.wakes.store);
+  empty = search rules;
+}

@@ -13,28 +13,21 @@ invariant_of-self-2 g c = (
   rw c.in_ok-process.ensures.some.out (waiting_moved c.self.invariant.2 c.in_ok-process.process _ (rw c.in_ok-process.ensures.some.was.ready) refl),
 )
 
-pub take_out-requires-clause-process : goal.take_out-requires-clause-process
-take_out-requires-clause-process g c κs within = let k = c.self.invariant.0.keeps in omega (arith, c.in_ok-process.ensures.some.was.within, k.one_each, k.processes)
+pub take_out-requires-clause-may : goal.take_out-requires-clause-may
+take_out-requires-clause-may g c κs within =
+    let sound = c.self.invariant.0 in
+    let ready = c.in_ok-process.ensures.some.was.ready in
+    record {
+      process = omega (arith, c.in_ok-process.ensures.some.was.within, sound.keeps.one_each, sound.keeps.processes);
+      live = λ e. let stopped = sound.keeps.done c.in_ok-process.process e in cc;
+      well_typed = sound.keeps.well_typed;
+      has_body = sound.has_bodies c.in_ok-process.process (omega (arith, c.in_ok-process.ensures.some.was.within, sound.keeps.one_each)) (λ e. cc);
+    }
 
 pub take_out-requires-clause-bodies : goal.take_out-requires-clause-bodies
 take_out-requires-clause-bodies g c κs within =
     let sound = c.self.invariant.0 in
     omega (arith, c.in_ok-process.ensures.some.was.within, sound.keeps.one_each, sound.many_bodies, length-map c.self.inside.bodies.items (option_map g.B.Body.card))
-
-pub take_out-requires-clause-live : goal.take_out-requires-clause-live
-take_out-requires-clause-live g c κs within = λ e.
-    let ready = c.in_ok-process.ensures.some.was.ready in
-    let stopped = c.self.invariant.0.keeps.done c.in_ok-process.process e in
-    cc
-
-pub take_out-requires-clause-well_typed : goal.take_out-requires-clause-well_typed
-take_out-requires-clause-well_typed g c κs within = c.self.invariant.0.keeps.well_typed
-
-pub take_out-requires-clause-has_body : goal.take_out-requires-clause-has_body
-take_out-requires-clause-has_body g c κs within =
-    let sound = c.self.invariant.0 in
-    let ready = c.in_ok-process.ensures.some.was.ready in
-    sound.has_bodies c.in_ok-process.process (omega (arith, c.in_ok-process.ensures.some.was.within, sound.keeps.one_each)) (λ e. cc)
 
 pub returns-then-is_some-clause-none : goal.returns-then-is_some-clause-none
 returns-then-is_some-clause-none g c = rw (← c.self.view_is) (λ none. absurd (some_of _ (sym c.is_some.ensures ∙ c.if-is_some.true) none))

@@ -11,11 +11,9 @@ if_err : {T E : Type 0} (r : Result T E) (P : T → Type 0) (Q A : E → Type 0)
 if_err (Ok x) P Q A told leads = tt
 if_err (Err e) P Q A told leads = leads e told
 
-pub returns-clause-seat : goal.returns-clause-seat
-returns-clause-seat g c = MatchResult-weaker c.commit-answer.result c.commit-answer.ensures (λ o taken. taken.seat) (λ s same. same.1)
-
-pub returns-clause-committed : goal.returns-clause-committed
-returns-clause-committed g c = if_ok c.commit-answer.result _ _ _ c.commit-answer.ensures (λ o taken. taken.committed)
-
-pub returns-clause-stranger : goal.returns-clause-stranger
-returns-clause-stranger g c = if_err c.commit-answer.result _ _ _ c.commit-answer.ensures (λ s same. same.2)
+pub returns : goal.returns
+returns g c = record {
+  seat = MatchResult-weaker c.commit-answer.result c.commit-answer.ensures (λ o taken. taken.seat) (λ s same. same.1);
+  stranger = if_err c.commit-answer.result _ _ _ c.commit-answer.ensures (λ s same. same.2);
+  committed = if_ok c.commit-answer.result _ _ _ c.commit-answer.ensures (λ o taken. taken.committed);
+}

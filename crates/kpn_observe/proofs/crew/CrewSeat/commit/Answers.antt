@@ -12,11 +12,5 @@ keeps_parts (Err e) more new old is = ap (λ (s : Shares). s.parts) is
 pub invariant_of-self : goal.invariant_of-self
 invariant_of-self g c = keeps_parts c.commit.result entries_appended c.commit.new.seat c.self.inside.seat c.commit.ensures.seat ∙ c.self.invariant
 
-pub returns-clause-seat : goal.returns-clause-seat
-returns-clause-seat g c = rw (← c.self.view_is) c.commit.ensures.seat
-
-pub returns-clause-stranger : goal.returns-clause-stranger
-returns-clause-stranger g c = c.commit.ensures.stranger
-
-pub returns-clause-committed : goal.returns-clause-committed
-returns-clause-committed g c = c.commit.ensures.committed
+pub returns : goal.returns
+returns g c = rw (← c.self.view_is) c.commit.ensures

@@ -3,7 +3,7 @@ use Rattle.kpn_report.specs.Tally.{no_counts, counts_of}
 use Rattle.kpn_report.specs.declared.channel_counts.ChannelCounts.{ChannelCounts}
 use Rattle.kpn_report.proofs.Tables.{one_more}
 use Rattle.std.proofs.Common.{◌≡◌, arith, rules, ◌∷◌, [], length-append}
-use Rattle.kpn_report.proofs.counted.counted_channels.Goals as goal
+use Rattle.kpn_report.proofs.counted.counted_tally.Goals as goal
 
 pub loop-c-preserved : goal.loop-c-preserved
 loop-c-preserved g c =

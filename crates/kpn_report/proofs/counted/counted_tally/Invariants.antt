@@ -1,6 +1,6 @@
 use Rattle.std.proofs.Common.{◌≡◌, ◌<◌, ℕ, length, get_or}
 use Rattle.kpn_report.specs.Tally.{counts_of, no_counts}
-use Rattle.kpn_report.proofs.counted.counted_channels.Given as goal
+use Rattle.kpn_report.proofs.counted.counted_tally.Given as goal
 
 abbrev pub invariant-loop-c : goal.invariant-loop-c
 invariant-loop-c g l = record {
