@@ -1,7 +1,8 @@
 //! Bodies for a network of standard kinds.
-ghost use Rattle.std.specs.Prelude.{◌≡◌, IsSome, IfOk, None, map};
+ghost use Rattle.std.specs.Prelude.{◌≡◌, IsSome, IfOk};
 ghost use Rattle.kpn_standard.specs.Standard.{standard};
 ghost use Rattle.kpn_body.specs.StandardKinds.{signature, Admitted};
+ghost use Rattle.example_own_kinds.specs.First.{answers_at_start, answers_of_bodies};
 
 use crate::asked::first_answer;
 use kpn_body::{Body, Call, Standard, StandardBody, answer};
@@ -11,7 +12,7 @@ use std::alloc::{AllocError, Global};
 /// Returns the first answer of each process, in order, from a body made with a closure of its own. The closure
 /// captures the card, and its clauses name nothing else; so one closure serves all kinds. Errors: out of memory.
 pub fn first_answers(alloc: Global, net: &Net<Standard>) -> Result<Vec<Answer>, AllocError>
-    ensures { IfOk result (λ answers. answers.items ≡ map (λ card. standard.answer card (standard.start card) None) (map (λ p. p.card) net.now.processes)) }
+    ensures { IfOk result (λ answers. answers.items ≡ answers_at_start standard net.now.processes) }
 {
     let mut bodies = Vec::new(alloc);
     for process in 0..net.processes() {
@@ -30,7 +31,7 @@ pub fn first_answers(alloc: Global, net: &Net<Standard>) -> Result<Vec<Answer>, 
 }
 
 fn each_first_answer<B: Body>(alloc: Global, bodies: Vec<B>) -> Result<Vec<Answer>, AllocError>
-    ensures { IfOk result (λ answers. answers.items ≡ map (λ b. B.Kinds.answer_of (B.card b) (B.Kinds.start (B.card b)) None) bodies.items) }
+    ensures { IfOk result (λ answers. answers.items ≡ answers_of_bodies B.Kinds.Kinds B.card bodies.items) }
 {
     let mut answers = Vec::with_capacity(alloc, bodies.len())?;
     for body in bodies {

@@ -9,7 +9,9 @@ use Rattle.test_laws.specs.Building.{process, copy, sink, words, network}
 
 -- writes v, and then what comes back; the sink takes k
 abbrev pub endless : ℕ → ℕ → Network
-endless v k = network (process 4 v 0 ∷ copy ∷ sink k ∷ []) (words (0, 0) (1, 0) 1 ∷ words (1, 0) (0, 0) 1 ∷ words (1, 1) (2, 0) 1 ∷ [])
+endless v k =
+    network (process 4 v 0 ∷ copy ∷ sink k ∷ [])
+    (words (0, 0) (1, 0) 1 ∷ words (1, 0) (0, 0) 1 ∷ words (1, 1) (2, 0) 1 ∷ [])
 
 -- v on each channel, forever
 abbrev pub for_ever : ℕ → Streams

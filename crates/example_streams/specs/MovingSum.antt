@@ -2,17 +2,22 @@
 -- that channel begins with 0.
 use Rattle.std.specs.Prelude.{ℕ, ◌+◌, ◌%◌, ◌^◌, List, [], ◌∷◌}
 use Rattle.kpn_model.specs.declared.token.Token.{Token}
+use Rattle.kpn_model.specs.declared.parts.Channel.{Channel}
 use Rattle.kpn_model.specs.Network.{Network}
 use Rattle.kpn_standard.specs.Standard.{standard}
 use Rattle.kpn_streams.specs.Solving.{HasStreams}
 use Rattle.test_laws.specs.Building.{count, sink, copy, add, words, holding, numbers, network}
-use Rattle.example_streams.specs.Arriving.{arriving, on_channels}
+use Rattle.example_streams.specs.Arriving.{arriving, from_source, on_channels}
+
+-- from the copy to the adder, one token later
+abbrev pub one_later : Channel
+one_later = holding (numbers (0 ∷ [])) (words (1, 1) (2, 1) 1)
 
 -- the source counts n numbers from `from` on, after xs, and the sink takes k
 abbrev pub moving_sum : List ℕ → ℕ → ℕ → ℕ → Network
 moving_sum xs from n k =
     network (count from n ∷ copy ∷ add ∷ sink k ∷ [])
-    (holding (numbers xs) (words (0, 0) (1, 0) 1) ∷ words (1, 0) (2, 0) 1 ∷ holding (numbers (0 ∷ [])) (words (1, 1) (2, 1) 1) ∷ words (2, 0) (3, 0) 1 ∷ [])
+    (from_source xs ∷ words (1, 0) (2, 0) 1 ∷ one_later ∷ words (2, 0) (3, 0) 1 ∷ [])
 
 -- each number plus the one before it, modulo 2^64; b precedes the first
 abbrev pub sums_of_two : ℕ → List ℕ → List ℕ

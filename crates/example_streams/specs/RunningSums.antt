@@ -5,24 +5,28 @@ use Rattle.kpn_model.specs.declared.token.Token.{Token}
 use Rattle.kpn_model.specs.Network.{Network}
 use Rattle.kpn_standard.specs.Standard.{standard}
 use Rattle.kpn_streams.specs.Solving.{HasStreams}
-use Rattle.test_laws.specs.Building.{count, sink, copy, add, words, holding, numbers, network}
-use Rattle.example_streams.specs.Arriving.{arriving, on_channels}
+use Rattle.test_laws.specs.Building.{count, sink, copy, add, words, numbers, sums_back, network}
+use Rattle.example_streams.specs.Arriving.{arriving, from_source, on_channels}
 
 -- the source counts n numbers from `from` on, after xs, and the sink takes k
 abbrev pub running_sums : List ℕ → ℕ → ℕ → ℕ → Network
 running_sums xs from n k =
     network (count from n ∷ add ∷ copy ∷ sink k ∷ [])
-    (holding (numbers xs) (words (0, 0) (1, 0) 1) ∷ holding (numbers (0 ∷ [])) (words (2, 0) (1, 1) 1) ∷ words (1, 0) (2, 0) 1 ∷ words (2, 1) (3, 0) 1 ∷ [])
+    (from_source xs ∷ sums_back ∷ words (1, 0) (2, 0) 1 ∷ words (2, 1) (3, 0) 1 ∷ [])
 
 abbrev pub sums_so_far : ℕ → List ℕ → List ℕ
 sums_so_far s [] = []
 sums_so_far s (x ∷ xs) = (s + x) % 2 ^ 64 ∷ sums_so_far (s + x) xs
 
+-- the stream of the sums
+abbrev pub summed : List ℕ → List Token
+summed xs = numbers (sums_so_far 0 xs)
+
 -- the channels from the source to the adder, from the copy back to the adder, from the adder to the copy, and
 -- to the sink
 abbrev pub running_streams : List ℕ → ℕ → List Token
 running_streams xs =
-    on_channels (numbers xs ∷ numbers (0 ∷ sums_so_far 0 xs) ∷ numbers (sums_so_far 0 xs) ∷ numbers (sums_so_far 0 xs) ∷ [])
+    on_channels (numbers xs ∷ numbers (0 ∷ sums_so_far 0 xs) ∷ summed xs ∷ summed xs ∷ [])
 
 -- for any input the network computes the sums so far
 abbrev pub RunningSums : Type 0

@@ -57,15 +57,23 @@ multiples m xs = filter (λ x. x % m == 0) xs
 abbrev pub others : ℕ → List ℕ → List ℕ
 others m xs = filter (λ x. not (x % m == 0)) xs
 
+-- whether m divides each
+abbrev pub tested : ℕ → List ℕ → List Token
+tested m xs = map (λ f. Flag f) (divided m xs)
+
 -- the channels before and in a stage with input xs: n, ask, w, yes, drop
 abbrev pub stage : ℕ → List ℕ → List (List Token) → List (List Token)
-stage m xs rest = numbers xs ∷ numbers xs ∷ numbers xs ∷ map (λ f. Flag f) (divided m xs) ∷ numbers (multiples m xs) ∷ rest
+stage m xs rest = numbers xs ∷ numbers xs ∷ numbers xs ∷ tested m xs ∷ numbers (multiples m xs) ∷ rest
+
+-- those of a stage with input xs, and the channel after it
+abbrev pub last_stage : ℕ → List ℕ → List (List Token)
+last_stage m xs = stage m xs (numbers (others m xs) ∷ [])
 
 -- those of the three stages, and the last
 abbrev pub sieve_streams : ℕ → ℕ → ℕ → List ℕ → ℕ → List Token
 sieve_streams a b c xs =
     on_channels
-    (stage a xs (stage b (others a xs) (stage c (others b (others a xs)) (numbers (others c (others b (others a xs))) ∷ []))))
+    (stage a xs (stage b (others a xs) (last_stage c (others b (others a xs)))))
 
 -- for any input each stage passes on what its number doesn't divide, in order; so the last channel gets the
 -- numbers that none of the three divides

@@ -1,5 +1,6 @@
 -- What the arguments ask for, and why they are rejected.
-use Rattle.std.specs.Prelude.{◌≡◌, ◌⊎◌, ◌<◌, ◌≤◌, ◌^◌, ℕ, Bool, false, codes, List, [], map, Option, Some, None, IfSome, Result, IfOk, IfErr, if◌then◌else◌, option_map, unwrap_or}
+use Rattle.std.specs.Prelude.{◌≡◌, ◌⊎◌, ◌<◌, ◌≤◌, ◌^◌, ℕ, Bool, false, codes, List, [], map, Option, Some, None, IfSome, Result, IfOk, IfErr, if◌then◌else◌, option_map, unwrap_or, ◌==◌, length}
+use Rattle.std.specs.List.{after_first, before_first, position_or_len}
 use Rattle.std.specs.Option.{option_map_or}
 use Rattle.std.specs.Str.{bytes_eq}
 use Rattle.std.specs.Str.Parse.{IsNumeral, digits_value, without_leading_plus}
@@ -17,9 +18,34 @@ use Rattle.hox_args.specs.declared.arguments.WordsFault.{WordsFault}
 use Rattle.hox_args.specs.declared.arguments.WordsFault.TheVariants.{Parser, Workers, Budget, Memory}
 use Rattle.hox_args.specs.HoxCommand.{hox}
 
+abbrev pub is_equal_sign : ℕ → Bool
+is_equal_sign b = b == 61
+
+-- the place of the first `=`, or the text's length
+abbrev pub equals_place : Text → ℕ
+equals_place text = position_or_len is_equal_sign text
+
+abbrev pub before_equals : Text → Text
+before_equals text = before_first is_equal_sign text
+
+abbrev pub after_equals : Text → Text
+after_equals text = after_first is_equal_sign text
+
+abbrev pub LacksEquals : Text → Type 0
+LacksEquals text = equals_place text ≡ length text
+
+-- the first `=` of the text stands between these
+abbrev pub SplitsAtEquals : Text → Text → Text → Type 0
+SplitsAtEquals text channel file =
+    (channel ≡ before_equals text) × (file ≡ after_equals text) × (equals_place text < length text)
+
+-- the digits of a number, after its plus sign if it has one
+abbrev pub number_digits : Text → Text
+number_digits text = without_leading_plus text
+
 -- the text is a number of 64 bits
 abbrev pub ReadsNumber : Text → ℕ → Type 0
-ReadsNumber text n = IsNumeral 10 (without_leading_plus text) × (digits_value 10 (without_leading_plus text) ≡ n) × (n < 2 ^ 64)
+ReadsNumber text n = IsNumeral 10 (number_digits text) × (digits_value 10 (number_digits text) ≡ n) × (n < 2 ^ 64)
 
 abbrev pub IsNumber : Text → Option ℕ → Type 0
 IsNumber text (Some n) = ReadsNumber text n
@@ -34,6 +60,10 @@ BudgetFrom (Some text) (Some n) = ReadsNumber text n
 abbrev pub IsRefusedBudget : Option Text → Type 0
 IsRefusedBudget None = ⊥
 IsRefusedBudget (Some text) = IsNumber text None
+
+-- the budget's text is refused, with this fault
+abbrev pub IsBudgetFault : Option Text → WordsFault → Type 0
+IsBudgetFault text fault = (fault ≡ Budget) × IsRefusedBudget text
 
 abbrev pub texts_of : Text → List Row → List Text
 texts_of id rows = unwrap_or (all_of id rows) []
@@ -100,8 +130,12 @@ HasFewHoxWorkers (Draw draw) = IfSome draw.workers (λ n. (1 ≤ n) × (n ≤ 16
 HasFewHoxWorkers (Stream stream) = Unit {0}
 HasFewHoxWorkers (Kinds kinds) = Unit {0}
 
+-- the last three of the subcommands
+abbrev pub IsLaterSubcommand : Text → Type 0
+IsLaterSubcommand name = (name ≡ codes "draw") ⊎ ((name ≡ codes "stream") ⊎ (name ≡ codes "kinds"))
+
 abbrev pub IsSubcommand : Text → Type 0
-IsSubcommand name = (name ≡ codes "check") ⊎ ((name ≡ codes "run") ⊎ ((name ≡ codes "draw") ⊎ ((name ≡ codes "stream") ⊎ (name ≡ codes "kinds"))))
+IsSubcommand name = (name ≡ codes "check") ⊎ ((name ≡ codes "run") ⊎ IsLaterSubcommand name)
 
 -- the command line accepts the arguments
 abbrev pub AreHoxTaken : List Text → Type 0

@@ -17,6 +17,21 @@ list_rule name = record (new_rule name) { long = Some name; action = Some Append
 abbrev pub flag_rule : List ℕ → Rule
 flag_rule name = record (new_rule name) { long = Some name; action = Some SetTrue }
 
+abbrev pub tokens_rule : Rule
+tokens_rule = list_rule (codes "tokens")
+
+abbrev pub format_rule : Rule
+format_rule = list_rule (codes "format")
+
+abbrev pub show_rule : Rule
+show_rule = list_rule (codes "show")
+
+abbrev pub unsigned_rule : Rule
+unsigned_rule = list_rule (codes "unsigned")
+
+abbrev pub progress_rule : Rule
+progress_rule = flag_rule (codes "progress")
+
 -- the same options with a short name of one letter, `-o FILE` for `--out FILE`
 abbrev pub out_rule : Rule
 out_rule = record (list_rule (codes "out")) { short = Some 111 }
@@ -39,42 +54,49 @@ hox_file_rule = positional_rule (codes "file")
 
 abbrev pub hox_check_command : App
 hox_check_command =
-    let files = with_rule (with_rule (new_app (codes "check")) (list_rule (codes "tokens"))) (list_rule (codes "format")) in
+    let files = with_rule (with_rule (new_app (codes "check")) tokens_rule) format_rule in
     with_rule (with_rule files (flag_rule (codes "expanded"))) hox_file_rule
 
 -- `run` with its options on files and streams; also with those on the budget and workers; and with all
 abbrev pub hox_run_streams : App
 hox_run_streams =
-    let files = with_rule (with_rule (new_app (codes "run")) (list_rule (codes "tokens"))) out_rule in
-    with_rule (with_rule (with_rule files (list_rule (codes "format"))) (list_rule (codes "show"))) (list_rule (codes "unsigned"))
+    let files = with_rule (with_rule (new_app (codes "run")) tokens_rule) out_rule in
+    with_rule (with_rule (with_rule files format_rule) show_rule) unsigned_rule
 
 abbrev pub hox_run_bounds : App
 hox_run_bounds = with_rule (with_rule hox_run_streams budget_rule) workers_rule
 
 abbrev pub hox_run_command : App
 hox_run_command =
-    let shown = with_rule (with_rule hox_run_bounds (flag_rule (codes "progress"))) (flag_rule (codes "json")) in
+    let shown = with_rule (with_rule hox_run_bounds progress_rule) (flag_rule (codes "json")) in
     with_rule (with_rule shown quiet_rule) hox_file_rule
 
--- `draw` with its flags, and with all its options
+-- `draw` with its flags; also with that on the workers; and with all its options
 abbrev pub hox_draw_flags : App
 hox_draw_flags = with_rule (with_rule (new_app (codes "draw")) (flag_rule (codes "run"))) (flag_rule (codes "down"))
 
+abbrev pub hox_draw_bounds : App
+hox_draw_bounds = with_rule hox_draw_flags workers_rule
+
 abbrev pub hox_draw_command : App
-hox_draw_command = with_rule (with_rule (with_rule (with_rule hox_draw_flags workers_rule) (list_rule (codes "tokens"))) (list_rule (codes "format"))) hox_file_rule
+hox_draw_command = with_rule (with_rule (with_rule hox_draw_bounds tokens_rule) format_rule) hox_file_rule
 
 abbrev pub hox_stream_command : App
 hox_stream_command =
     let files = with_rule (with_rule (new_app (codes "stream")) (list_rule (codes "in"))) out_rule in
-    let shown = with_rule (with_rule (with_rule files (list_rule (codes "format"))) (list_rule (codes "unsigned"))) (flag_rule (codes "progress")) in
+    let shown = with_rule (with_rule (with_rule files format_rule) unsigned_rule) progress_rule in
     with_rule (with_rule (with_rule shown (flag_rule (codes "watch"))) quiet_rule) hox_file_rule
 
 abbrev pub hox_kinds_command : App
 hox_kinds_command = with_rule (new_app (codes "kinds")) (positional_rule (codes "name"))
 
+-- the command line, with a version, and requiring a subcommand
+abbrev pub requiring_subcommand : App → App
+requiring_subcommand a = record a { top = record a.top { has_version = true; subcommand_required = true } }
+
 -- it has a version, and requires a subcommand; `help SUBCOMMAND` is one
 abbrev pub bare_hox : App
-bare_hox = let a = new_app (codes "hox") in record a { top = record a.top { has_version = true; subcommand_required = true } }
+bare_hox = let a = new_app (codes "hox") in requiring_subcommand a
 
 -- the command line with its first two subcommands, with four, and with all
 abbrev pub hox_two : App

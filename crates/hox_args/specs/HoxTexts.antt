@@ -4,9 +4,17 @@ use Rattle.clap.specs.Words.{Text}
 use Rattle.hox_args.specs.declared.arguments.WordsFault.{WordsFault}
 use Rattle.hox_args.specs.declared.arguments.WordsFault.TheVariants.{Parser, Workers, Budget, Memory}
 
+-- written if the number of workers is refused
+abbrev pub workers_text : Text
+workers_text = codes "error: --workers takes a number from 1 to 16\n\nFor more information, try 'hox run --help'.\n"
+
+-- written if the budget is refused
+abbrev pub budget_text : Text
+budget_text = codes "error: --budget takes a number\n\nFor more information, try 'hox run --help'.\n"
+
 -- the text, if it is not clap's own
 abbrev pub text_of_hox_fault : WordsFault → Option Text
 text_of_hox_fault (Parser e) = None
-text_of_hox_fault Workers = Some (codes "error: --workers takes a number from 1 to 16\n\nFor more information, try 'hox run --help'.\n")
-text_of_hox_fault Budget = Some (codes "error: --budget takes a number\n\nFor more information, try 'hox run --help'.\n")
+text_of_hox_fault Workers = Some workers_text
+text_of_hox_fault Budget = Some budget_text
 text_of_hox_fault Memory = Some (codes "error: out of memory\n")

@@ -1,12 +1,11 @@
 //! Parses the command line's arguments.
-ghost use Rattle.std.specs.Prelude.{◌≡◌, ◌==◌, ◌<◌, Some, None, IfOk, IfErr, MatchOption, length, map, option_map, codes, false, if◌then◌else◌};
+ghost use Rattle.std.specs.Prelude.{◌≡◌, Some, None, IfOk, IfErr, MatchOption, map, option_map, codes, false, if◌then◌else◌};
 ghost use Rattle.std.specs.Option.{option_map_or};
-ghost use Rattle.std.specs.List.{after_first, before_first, position_or_len};
 ghost use Rattle.std.specs.Str.{bytes_eq};
 ghost use Rattle.clap.specs.Words.{FailsBy, fault_of, found_of, rows_of, subcommand_of, subcommand_rows_of};
 ghost use Rattle.kpn_picture.specs.declared.looks.Direction.TheVariants.{Right, Down};
 ghost use Rattle.hox_args.specs.HoxCommand.{hox};
-ghost use Rattle.hox_args.specs.HoxChoices.{BudgetFrom, GivesChoice, HasFewHoxWorkers, IsHoxChoice, IsHoxChoiceOf, IsHoxFault, IsNumber, IsRefusedBudget, IsSubcommand, asks_for_hox_help, is_given, texts_of};
+ghost use Rattle.hox_args.specs.HoxChoices.{BudgetFrom, GivesChoice, HasFewHoxWorkers, IsBudgetFault, IsHoxChoice, IsHoxChoiceOf, IsHoxFault, IsNumber, IsSubcommand, LacksEquals, SplitsAtEquals, asks_for_hox_help, is_given, texts_of};
 
 use crate::command::command_line;
 use clap::ArgMatches;
@@ -185,7 +184,7 @@ pub fn read_words<'a>(alloc: Global, words: &'a [&'a str]) -> Result<Choice<'a>,
 
 /// Splits a text `CHANNEL=FILE` at its first `=`; returns `None` if it has none.
 pub fn channel_and_file(text: &str) -> Option<(&str, &str)>
-    ensures { MatchOption result (position_or_len (λ b. b == 61) text.now ≡ length text.now) (λ p. (p.0.now ≡ before_first (λ b. b == 61) text.now) × (p.1.now ≡ after_first (λ b. b == 61) text.now) × (position_or_len (λ b. b == 61) text.now < length text.now)) }
+    ensures { MatchOption result (LacksEquals text.now) (λ p. SplitsAtEquals text.now p.0.now p.1.now) }
 {
     text.split_once('=')
 }
@@ -330,7 +329,7 @@ fn is_true(text: Option<&str>) -> bool
 
 fn budget_in(text: Option<&str>) -> Result<Option<u64>, WordsFault>
     ensures ok { IfOk result (BudgetFrom (option_map (λ s. s.now) text.entry)) }
-    ensures budget { IfErr result (λ e. (e ≡ WordsFault.Budget) × IsRefusedBudget (option_map (λ s. s.now) text.entry)) }
+    ensures budget { IfErr result (IsBudgetFault (option_map (λ s. s.now) text.entry)) }
 {
     match text {
         Some(text) => match number_of(text) {

@@ -1,9 +1,8 @@
 //! Draws the network of a description.
-ghost use Rattle.std.specs.Prelude.{false, IfOk, IfErr, Some, string_bytes};
+ghost use Rattle.std.specs.Prelude.{false, IfOk, IfErr, Some};
 ghost use Rattle.kpn_model.specs.Network.{Network as NetworkV};
-ghost use Rattle.kpn_model.specs.Families.{family};
-ghost use Rattle.hox_network.specs.Preparing.{IsFault, Serves, ServesFrom};
-ghost use Rattle.hox_draw.specs.Drawing.{Draws, DrawsNet, GivesPicture};
+ghost use Rattle.hox_draw.specs.Drawing.{DrawsSource, GivesWanted, ShowsNet, ShowsWanted};
+ghost use Rattle.hox_network.specs.Preparing.{IsFault, Serves};
 
 use crate::running::draw_run;
 use crate::titles::titles_of;
@@ -36,7 +35,7 @@ pub fn draw<K: Computes + Titled, I: Source, R: Wait + Clock + Threads + Sync>(
     wanted: &WantedPicture<'_>,
     source: &mut I,
 ) -> Result<String, Fault>
-    ensures { ServesFrom K.named K.signature (GivesPicture (family K.Kinds) K.named K.title wanted.now.direction wanted.now.is_run wanted.now.request.now) (I.remaining source.old) (I.remaining source.new) (I.has_failed source.old) (I.has_failed source.new) result }
+    ensures { DrawsSource K.Kinds K.title wanted.now I.Source source.old source.new result }
 {
     match read_text(alloc, source) {
         Ok(text) => draw_text::<K, R>(rt, alloc, wanted, text.as_slice()),
@@ -53,7 +52,7 @@ fn draw_text<K: Computes + Titled, R: Wait + Clock + Threads + Sync>(
     wanted: &WantedPicture<'_>,
     text: &[u8],
 ) -> Result<String, Fault>
-    ensures { Serves K.named K.signature (GivesPicture (family K.Kinds) K.named K.title wanted.now.direction wanted.now.is_run wanted.now.request.now) (Some text.now) false false result }
+    ensures { Serves K.named K.signature (GivesWanted K.Kinds K.title wanted.now) (Some text.now) false false result }
 {
     let mut source = text;
     let net: Net<K> = match prepare(alloc, wanted.request, &mut source) {
@@ -77,7 +76,7 @@ fn draw_prepared<K: Computes + Titled, R: Wait + Clock + Threads + Sync>(
     net: Net<K>,
     style: &Style<'_>,
 ) -> Result<String, Fault>
-    ensures drawn { IfOk result (λ picture. Draws (family K.Kinds) K.title style.now.direction style.now.titles.now wanted.now.is_run net (string_bytes picture)) }
+    ensures drawn { IfOk result (ShowsWanted K.Kinds K.title style.now wanted.now.is_run net) }
     ensures fault { IfErr result (λ e. (m : NetworkV) → IsFault wanted.now.request.now m e) }
 {
     if !wanted.is_run {
@@ -91,7 +90,7 @@ fn draw_prepared<K: Computes + Titled, R: Wait + Clock + Threads + Sync>(
 }
 
 fn draw_net<K: Titled>(alloc: Global, net: &Net<K>, style: &Style<'_>) -> Result<String, AllocError>
-    ensures { IfOk result (λ picture. DrawsNet (family K.Kinds) K.title style.now.direction style.now.titles.now net.now (string_bytes picture)) }
+    ensures { IfOk result (ShowsNet K.Kinds K.title style.now net.now) }
 {
     let start = Left {
         places: &[],

@@ -1,7 +1,6 @@
 //! Runs a network, and draws it as the run left it.
-ghost use Rattle.std.specs.Prelude.{◌≡◌, ◌<◌, ◌≤◌, Err, IfOk, IsSome, string_bytes};
-ghost use Rattle.kpn_model.specs.Families.{family};
-ghost use Rattle.hox_draw.specs.Drawing.{DrawsRun, report_picture};
+ghost use Rattle.std.specs.Prelude.{◌≡◌, ◌<◌, ◌≤◌, Err, IfOk, IsSome};
+ghost use Rattle.hox_draw.specs.Drawing.{ShowsReport, ShowsRun};
 
 use hox_network::NoResult;
 use kpn_compute::{Computes, bodies_of};
@@ -27,7 +26,7 @@ pub(crate) fn draw_run<K: Computes + Titled, R: Wait + Clock + Threads + Sync>(
     style: &Style<'_>,
     workers: usize,
 ) -> Result<String, NoResult>
-    ensures drawn { IfOk result (λ picture. DrawsRun (family K.Kinds) K.title style.now.direction style.now.titles.now net (string_bytes picture)) }
+    ensures drawn { IfOk result (ShowsRun K.Kinds K.title style.now net) }
     ensures lost { result ≡ Err NoResult.Lost → 1 < workers }
 {
     if workers > 1 {
@@ -51,7 +50,7 @@ fn draw_by_workers<K: Computes + Titled, R: Wait + Clock + Threads + Sync>(
     workers: usize,
 ) -> Result<String, NoResult>
     requires { (1 < workers) × (workers ≤ 16) }
-    ensures { IfOk result (λ picture. DrawsRun (family K.Kinds) K.title style.now.direction style.now.titles.now net (string_bytes picture)) }
+    ensures { IfOk result (ShowsRun K.Kinds K.title style.now net) }
 {
     let Ok(bodies) = bodies_of(alloc, &net) else {
         return Err(NoResult::Memory);
@@ -73,7 +72,7 @@ fn picture_of_run<K: Titled>(
     style: &Style<'_>,
 ) -> Result<String, AllocError>
     requires { IsSome chronicle.now.end }
-    ensures { IfOk result (λ picture. DrawsRun (family K.Kinds) K.title style.now.direction style.now.titles.now chronicle.now.network (string_bytes picture)) }
+    ensures { IfOk result (ShowsRun K.Kinds K.title style.now chronicle.now.network) }
 {
     let Some(end) = chronicle.end() else {
         unreachable!()
@@ -92,7 +91,7 @@ fn picture_of_report<K: Titled>(
     style: &Style<'_>,
     report: &Report,
 ) -> Result<String, AllocError>
-    ensures { IfOk result (λ picture. string_bytes picture ≡ report_picture (family K.Kinds) K.title style.now.direction style.now.titles.now net.now report.now.end report.now.detail) }
+    ensures { IfOk result (ShowsReport K.Kinds K.title style.now net.now report.now.end report.now.detail) }
 {
     let left = match &report.detail {
         Some(detail) => Left {

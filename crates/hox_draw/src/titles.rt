@@ -1,7 +1,6 @@
 //! Titles of processes that are formulas.
-ghost use Rattle.std.specs.Prelude.{◌≡◌, ◌++◌, codes, decimal, IfOk, IsTrue, Some};
-ghost use Rattle.kpn_model.specs.Network.{card_of};
-ghost use Rattle.hox_draw.specs.Titles.{AreTitles, IsFormulaOf, IsTitleOf};
+ghost use Rattle.std.specs.Prelude.{IfOk, IsTrue};
+ghost use Rattle.hox_draw.specs.Titles.{AreTitles, HasFormula, IsFormulaOf, IsTitleOf};
 
 use hox_formula::{Wrong, compile};
 use kpn_model::{Card, Kinds, Text};
@@ -68,7 +67,7 @@ fn has_formula<K: Kinds>(
     p: usize,
     formula: Card,
 ) -> Result<bool, AllocError>
-    ensures { IfOk result (λ has. IsTrue has → (K.named (codes "formula " ++ decimal formula.kind) ≡ Some ((card_of net.now p).kind, 3)) × ((card_of net.now p).args ≡ formula.args)) }
+    ensures { IfOk result (λ has. IsTrue has → HasFormula K.named net.now p formula) }
 {
     let number = formula.kind;
     let name = format!(in alloc; "formula {number}")?;

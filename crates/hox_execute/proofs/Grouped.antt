@@ -4,7 +4,7 @@ use Rattle.hox_run.specs.declared.files.StreamFile.{StreamFile}
 use Rattle.hox_format.specs.Forms.{form}
 use Rattle.hox_format.specs.Tables.{decimals_of}
 use Rattle.hox_files.specs.declared.pairs.Pair.{Pair}
-use Rattle.hox_files.specs.Pairs.{Group, begins, group_in, groups}
+use Rattle.hox_files.specs.Pairs.{begins, group_in, groups}
 use Rattle.hox_execute.specs.Reports.{columns, file_text, file_texts}
 use Rattle.hox_files.proofs.Firsts.{left_at}
 use Rattle.hox_files.proofs.Parted.{nothing_left}

@@ -2,3 +2,4 @@ pub mod Reports
 pub mod Commands
 pub mod Program
 pub mod Streaming
+pub mod OnFiles

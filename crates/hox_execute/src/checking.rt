@@ -1,12 +1,12 @@
 //! Checks a description.
-ghost use Rattle.std.specs.Prelude.{◌≡◌, [], None, Result, IfOk, IfErr, OnErr, false, map, option_map};
+ghost use Rattle.std.specs.Prelude.{◌≡◌, None, IfOk, IfErr, OnErr, false, option_map};
 ghost use Rattle.kpn_front.specs.Lines.{checked_line};
-ghost use Rattle.kpn_model.specs.Network.{Network as NetworkV};
-ghost use Rattle.hox_network.specs.declared.request.Fault.{Fault as FaultV};
 ghost use Rattle.hox_network.specs.Preparing.{GivesNet};
-ghost use Rattle.hox_execute.specs.Commands.{EndsCheck, checked_text};
+ghost use Rattle.hox_execute.specs.Commands.{checked_text};
+ghost use Rattle.hox_execute.specs.OnFiles.{EndsCheckOn, IsUnchecked, TellsChecked};
 ghost use Rattle.hox_execute.specs.Program.{want_in};
-ghost use Rattle.hox_files.specs.Requests.{ServesFile, want_of};
+ghost use Rattle.hox_files.specs.Files.{texts_in};
+ghost use Rattle.hox_files.specs.Requests.{want_of};
 ghost use Rattle.hox_files.specs.Served.{ServesNamed};
 
 use crate::writing::write_text;
@@ -35,7 +35,7 @@ pub(crate) fn check<'a, K: Titled, S: FileSystem>(
     tokens: &[&'a str],
     is_expanded: bool,
 ) -> Result<ExitStatus, Stop<'a>>
-    ensures { EndsCheck K.named K.signature (S.contents files.old) (S.clash files.old) (want_of wanted.entry) (map (λ t. t.now) tokens.now) [] (S.is_steady files.old) (S.effects files.old) (S.effects files.new) K.title is_expanded result }
+    ensures { EndsCheckOn K.Kinds S.FileSystem files.old files.new wanted.entry tokens.now K.title is_expanded result }
 {
     let asked = asked_of(alloc, files, wanted, tokens, &[])?;
     match checked_text::<K, S>(alloc, files, &asked.request, wanted.file, is_expanded) {
@@ -56,8 +56,8 @@ fn checked_text<K: Titled, S: FileSystem>(
     name: &str,
     is_expanded: bool,
 ) -> Result<Vec<u8>, Unserved>
-    ensures ok { IfOk result (λ text. (net : NetworkV) × ServesFile (S.contents files.now) K.named K.signature (GivesNet request.now) name.now (Ok net) × (text.items ≡ checked_text K.title is_expanded net)) }
-    ensures fault { IfErr result (λ u. let refused : Result NetworkV FaultV = Err u.fault in ServesFile (S.contents files.now) K.named K.signature (GivesNet request.now) name.now refused) }
+    ensures ok { IfOk result (TellsChecked K.Kinds S.FileSystem files.now request.now name.now K.title is_expanded) }
+    ensures fault { IfErr result (IsUnchecked K.Kinds S.FileSystem files.now request.now name.now) }
 {
     let net = prepared_net::<K, S>(alloc, files, request, name)?;
     match text_of(alloc, &net, is_expanded) {
@@ -118,7 +118,7 @@ pub(crate) fn network_in<'a, 'b>(
     formats: &'b [&'a str],
     workers: usize,
 ) -> CommandOptions<'a, 'b>
-    ensures { want_of result ≡ want_in (option_map (λ s. s.now) file.entry) (map (λ s. s.now) formats.entry.now) workers }
+    ensures { want_of result ≡ want_in (option_map (λ s. s.now) file.entry) (texts_in formats.entry.now) workers }
 {
     CommandOptions {
         file: name_of(file),

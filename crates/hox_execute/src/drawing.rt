@@ -1,9 +1,6 @@
 //! Draws a network.
 ghost use Rattle.std.specs.Prelude.{◌≡◌, is_some};
-ghost use Rattle.kpn_model.specs.Families.{family};
-ghost use Rattle.hox_draw.specs.Drawing.{GivesPicture};
-ghost use Rattle.hox_execute.specs.Program.{EndsDraw};
-ghost use Rattle.hox_files.specs.Served.{ServesNamed};
+ghost use Rattle.hox_execute.specs.OnFiles.{DrawsNamed, EndsDrawOn};
 
 use crate::checking::network_in;
 use crate::writing::write_text;
@@ -29,7 +26,7 @@ pub(crate) fn draw<'a, K: Computes + Titled, S: FileSystem, R: Wait + Clock + Th
     files: &mut S,
     choice: &DrawChoice<'a>,
 ) -> Result<ExitStatus, Stop<'a>>
-    ensures { EndsDraw (family K.Kinds) K.named K.signature (S.contents files.old) (S.clash files.old) (S.is_steady files.old) (S.effects files.old) (S.effects files.new) K.title choice.now result }
+    ensures { EndsDrawOn K.Kinds S.FileSystem files.old files.new K.title choice.now result }
 {
     let workers = choice.workers.unwrap_or(1);
     let wanted = network_in(choice.file, choice.formats.as_slice(), workers);
@@ -64,7 +61,7 @@ fn drawn<K: Computes + Titled, S: FileSystem, R: Wait + Clock + Threads + Sync>(
     wanted: &WantedPicture<'_>,
     name: &str,
 ) -> Result<String, Unserved>
-    ensures { ServesNamed (S.contents files.now) K.named K.signature (GivesPicture (family K.Kinds) K.named K.title wanted.now.direction wanted.now.is_run wanted.now.request.now) name.now result }
+    ensures { DrawsNamed K.Kinds S.FileSystem files.now K.title wanted.now name.now result }
 {
     let mut source = match files.open(name) {
         Ok(source) => Watched::new(source),

@@ -1,12 +1,9 @@
 //! Runs a network.
 ghost use Rattle.std.specs.Prelude.{◌≡◌, IfOk, string_bytes};
-ghost use Rattle.kpn_model.specs.Families.{family};
-ghost use Rattle.hox_run.specs.Serving.{GivesRun};
-ghost use Rattle.hox_execute.specs.Commands.{Ends, HasWritten};
-ghost use Rattle.hox_execute.specs.Program.{EndsRun, want_of_run};
+ghost use Rattle.hox_execute.specs.OnFiles.{EndsRunOn, EndsWriting, RunsNamed};
+ghost use Rattle.hox_execute.specs.Program.{want_of_run};
 ghost use Rattle.hox_execute.specs.Reports.{rate_of, report_as};
 ghost use Rattle.hox_files.specs.Requests.{want_of};
-ghost use Rattle.hox_files.specs.Served.{ServesNamed};
 
 use crate::progress::Asking;
 use crate::texts::{FileNote, file_notes, file_texts, rate_of};
@@ -54,7 +51,7 @@ pub(crate) fn run<
     choice: &RunChoice<'a>,
     progress: &P,
 ) -> Result<Ran<'a>, Stop<'a>>
-    ensures { EndsRun (family K.Kinds) K.named K.signature (S.contents files.old) (S.clash files.old) (S.is_steady files.old) (S.effects files.old) (S.effects files.new) choice.now result }
+    ensures { EndsRunOn K.Kinds S.FileSystem files.old files.new choice.now result }
 {
     let wanted = wanted_of(choice);
     let (tokens, outputs) = (choice.tokens.as_slice(), choice.outputs.as_slice());
@@ -102,7 +99,7 @@ fn ran_of<'a, S: FileSystem>(
     asked: Asked<'a>,
     wanted: CommandOptions<'_, '_>,
 ) -> Result<Ran<'a>, Stop<'a>>
-    ensures { Ends (HasWritten (want_of wanted.entry) asked.entry told (S.is_steady files.old) (S.effects files.old) (S.effects files.new)) (λ stop. stop ≡ Stop.Memory) (S.effects files.old) (S.effects files.new) result }
+    ensures { EndsWriting S.FileSystem files.old files.new wanted.entry asked.entry told result }
 {
     let Asked {
         tokens,
@@ -168,7 +165,7 @@ fn told_of<K: Computes, S: FileSystem, R: Wait + Clock + Threads + Sync, P: Prog
     wanted: &RequestOf<'_>,
     progress: &P,
 ) -> Result<Told, Unserved>
-    ensures { ServesNamed (S.contents files.now) K.named K.signature (GivesRun (family K.Kinds) wanted.now.request.now) wanted.now.file.now result }
+    ensures { RunsNamed K.Kinds S.FileSystem files.now wanted.now.request.now wanted.now.file.now result }
 {
     let mut source = match files.open(wanted.file) {
         Ok(source) => Watched::new(source),

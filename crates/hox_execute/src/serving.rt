@@ -1,9 +1,7 @@
 //! Executes the arguments.
-ghost use Rattle.std.specs.Prelude.{◌≡◌, IfOk, IfErr, MatchResult, OnErr, map};
-ghost use Rattle.kpn_front.specs.declared.status.ExitStatus.{ExitStatus as ExitStatusV};
-ghost use Rattle.hox_execute.specs.declared.running.Ran.{Ran as RanV};
-ghost use Rattle.kpn_model.specs.Families.{family};
-ghost use Rattle.hox_execute.specs.Program.{EndsChoice, IsProgramStop, Serves};
+ghost use Rattle.std.specs.Prelude.{◌≡◌, IfOk, IfErr, MatchResult, OnErr};
+ghost use Rattle.hox_execute.specs.OnFiles.{EndsChoiceOn, ServesOn, StopsOn};
+ghost use Rattle.hox_execute.specs.Program.{ExitsWith, IsRanAs};
 
 use crate::checking::{check, network_in};
 use crate::drawing::draw;
@@ -52,8 +50,8 @@ pub fn execute<
     arguments: &'a [&'a str],
     progress: &P,
 ) -> Result<Executed<'a>, Stop<'a>>
-    ensures done { IfOk result (Serves (family K.Kinds) K.named K.signature (S.contents files.old) (S.clash files.old) (S.is_steady files.old) (S.effects files.old) (S.effects files.new) K.title (map (λ w. w.now) arguments.entry.now)) }
-    ensures stop { IfErr result (IsProgramStop K.named K.signature (S.contents files.old) (S.clash files.old) (map (λ w. w.now) arguments.entry.now)) }
+    ensures done { IfOk result (ServesOn K.Kinds S.FileSystem files.old files.new K.title arguments.entry.now) }
+    ensures stop { IfErr result (StopsOn K.Kinds S.FileSystem files.old arguments.entry.now) }
     ensures untouched { OnErr result (S.effects files.new ≡ S.effects files.old) }
 {
     match read_words(alloc, arguments) {
@@ -75,7 +73,7 @@ fn execute_choice<
     choice: Choice<'a>,
     progress: &P,
 ) -> Result<Executed<'a>, Stop<'a>>
-    ensures { EndsChoice (family K.Kinds) K.named K.signature (S.contents files.old) (S.clash files.old) (S.is_steady files.old) (S.effects files.old) (S.effects files.new) K.title choice.entry result }
+    ensures { EndsChoiceOn K.Kinds S.FileSystem files.old files.new K.title choice.entry result }
 {
     match choice {
         Choice::Check(chosen) => {
@@ -91,7 +89,7 @@ fn execute_choice<
 }
 
 fn exits<'a>(done: Result<ExitStatus, Stop<'a>>) -> Result<Executed<'a>, Stop<'a>>
-    ensures { MatchResult result (λ outcome. (status : ExitStatusV) × (outcome ≡ Executed.Exits status) × (done.entry ≡ Ok status)) (λ stop. done.entry ≡ Err stop) }
+    ensures { MatchResult result (ExitsWith done.entry) (λ stop. done.entry ≡ Err stop) }
 {
     match done {
         Ok(status) => Ok(Executed::Exits(status)),
@@ -100,7 +98,7 @@ fn exits<'a>(done: Result<ExitStatus, Stop<'a>>) -> Result<Executed<'a>, Stop<'a
 }
 
 fn has_run<'a>(done: Result<Ran<'a>, Stop<'a>>) -> Result<Executed<'a>, Stop<'a>>
-    ensures { MatchResult result (λ outcome. (ran : RanV) × (outcome ≡ Executed.Ran ran) × (done.entry ≡ Ok ran)) (λ stop. done.entry ≡ Err stop) }
+    ensures { MatchResult result (IsRanAs done.entry) (λ stop. done.entry ≡ Err stop) }
 {
     match done {
         Ok(ran) => Ok(Executed::Ran(ran)),

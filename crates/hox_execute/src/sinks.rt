@@ -4,6 +4,7 @@ ghost use Rattle.std.specs.List.{AllZip, filter};
 ghost use Rattle.hox_format.specs.Forms.{form};
 ghost use Rattle.hox_format.specs.Heads.{head_text};
 ghost use Rattle.hox_format.specs.Tables.{decimals_of};
+ghost use Rattle.hox_files.specs.Files.{texts_in};
 ghost use Rattle.hox_files.specs.Pairs.{begins, groups, is_alone};
 ghost use Rattle.hox_execute.specs.Streaming.{IsCreated, IsHeaded, IsTabled, IsUnwritten};
 
@@ -143,7 +144,7 @@ fn headed<S: FileSystem>(
     names: &[&[u8]],
     rate: u32,
 ) -> Result<S::Output, Uncreated>
-    ensures { IfOk result (IsHeaded S.Output.seen rate pair.now (map (λ name. name.now) names.now)) }
+    ensures { IfOk result (IsHeaded S.Output.seen rate pair.now (texts_in names.now)) }
 {
     let Ok(head) = head_of(alloc, pair, names, rate) else {
         return Err(Uncreated::Memory);
@@ -164,7 +165,7 @@ fn head_of(
     names: &[&[u8]],
     rate: u32,
 ) -> Result<Vec<u8>, AllocError>
-    ensures { IfOk result (λ head. head.items ≡ head_text (form pair.now.format) (map (λ name. name.now) names.now) rate None) }
+    ensures { IfOk result (λ head. head.items ≡ head_text (form pair.now.format) (texts_in names.now) rate None) }
 {
     let head = FileHead {
         names,

@@ -1,14 +1,12 @@
 //! Runs a network on tokens from files as they come.
 ghost use Rattle.std.specs.Prelude.{◌≡◌, IfOk, IfErr, IfSome, map};
 ghost use Rattle.std.specs.List.{AllZip};
-ghost use Rattle.hox_format.specs.Resuming.{left_of, resumed_has_failed};
 ghost use Rattle.hox_execute.specs.Reports.{first_rate};
 ghost use Rattle.kpn_model.specs.Families.{family};
-ghost use Rattle.hox_stream.specs.Serves.{Serves, new_inlets, new_outs};
-ghost use Rattle.hox_stream.specs.Views.{outs};
 ghost use Rattle.hox_files.specs.Pairs.{AreUsable, channels_of};
 ghost use Rattle.hox_network.specs.Meant.{IsSketchOf};
-ghost use Rattle.hox_execute.specs.Streaming.{AreEnds, ArePairsOf, AreUnpaired, IsFaultyBetween, IsNoEnds, IsOpened, IsRefusedIn, IsRefusedText, IsSketchIn, IsStreamStop, IsUnfit, IsUnopened, IsUnread, IsUnreadText, Opens, RunsBetween, StartsBetween, StreamsBetween, formats_of, inputs_of, laid_source, outputs_of};
+ghost use Rattle.hox_execute.specs.OnFiles.{HasSketch, IsOpenedOn, IsStreamStopOn, IsUnopenedOn, RunsOn, StreamsOn};
+ghost use Rattle.hox_execute.specs.Streaming.{AreEnds, ArePairsOf, AreUnpaired, IsFaultyBetween, IsNoEnds, IsRefusedIn, IsRefusedText, IsUnfit, IsUnread, IsUnreadText, Opens, StartsBetween, formats_of, inputs_of, laid_source, outputs_of};
 
 use crate::sinks::{sinks_of, tables_of};
 use crate::texts::USUAL_RATE;
@@ -98,8 +96,8 @@ pub fn stream<'a, K: Computes, S: FileSystem, L: Onlooker>(
     choice: &StreamChoice<'a>,
     onlooker: &L,
 ) -> Result<Streamed<'a, Both<K, Exits>, Resumed<S::Input>, S::Output>, StreamStop<'a>>
-    ensures done { IfOk result (λ s. StreamsBetween (family K.Kinds) K.named K.signature (S.contents files.now) (S.clash files.now) choice.now s.ends s.served.flow s.served.inlets.items (outs s.served.outlets.items s.served.tables.items) s.served.finish) }
-    ensures stop { IfErr result (IsStreamStop (family K.Kinds) K.named K.signature (S.contents files.now) (S.clash files.now) choice.now) }
+    ensures done { IfOk result (StreamsOn K.Kinds S.FileSystem files.now choice.now) }
+    ensures stop { IfErr result (IsStreamStopOn K.Kinds S.FileSystem files.now choice.now) }
 {
     let ends = ends_of(alloc, files, choice)?;
     let file = name_of(choice.file);
@@ -193,7 +191,7 @@ fn opened<K: Computes, S: FileSystem>(
     ends: &StreamEnds<'_>,
 ) -> Result<OpenStream<Both<K, Exits>>, Unopened>
     ensures ok { IfOk result (Opens (family K.Kinds) K.named K.signature (S.contents files.now) name.now ends.now) }
-    ensures fault { IfErr result (IsUnopened (family K.Kinds) K.named K.signature (S.contents files.now) name.now ends.now) }
+    ensures fault { IfErr result (IsUnopenedOn K.Kinds S.FileSystem files.now name.now ends.now) }
 {
     match described_in::<K, S>(alloc, files, name) {
         Ok(described) => open_described::<K>(alloc, described, ends),
@@ -240,7 +238,7 @@ fn described_in<K: Kinds, S: FileSystem>(
     files: &S,
     name: &str,
 ) -> Result<Described, Unopened>
-    ensures ok { IfOk result (λ described. IsSketchIn K.named K.signature (S.contents files.now) name.now described.sketch) }
+    ensures ok { IfOk result (λ described. HasSketch K.Kinds S.FileSystem files.now name.now described.sketch) }
     ensures fault { IfErr result (IsRefusedIn K.named K.signature (S.contents files.now) name.now) }
 {
     match text_in(alloc, files, name) {
@@ -306,7 +304,7 @@ fn run_between<'a, F: Computes, S: FileSystem, L: Onlooker>(
     start: OpenStream<F>,
     onlooker: &L,
 ) -> Result<Streamed<'a, F, Resumed<S::Input>, S::Output>, StreamStop<'a>>
-    ensures done { IfOk result (λ s. (s.ends ≡ ends.entry) × RunsBetween (family F.Kinds) (S.contents files.now) ends.entry start s.served.flow s.served.inlets.items (outs s.served.outlets.items s.served.tables.items) s.served.finish) }
+    ensures done { IfOk result (RunsOn F.Kinds S.FileSystem files.now ends.entry start) }
     ensures stop { IfErr result (IsUnfit ends.entry) }
 {
     let sources = sources_of(alloc, files, ends.inputs.as_slice())?;
@@ -372,7 +370,7 @@ fn sources_of<'a, S: FileSystem>(
     files: &S,
     pairs: &[Pair<'a>],
 ) -> Result<Vec<Begun<Resumed<S::Input>>>, StreamStop<'a>>
-    ensures ok { IfOk result (λ v. AllZip (IsOpened (left_of S.Input.remaining) (resumed_has_failed S.Input.has_failed) (S.contents files.now)) pairs.now v.items) }
+    ensures ok { IfOk result (λ v. AllZip (IsOpenedOn S.FileSystem S.Input.Source files.now) pairs.now v.items) }
     ensures stop { IfErr result (IsUnread pairs.now) }
 {
     let mut sources = Vec::new(alloc);
@@ -396,7 +394,7 @@ fn source_of<S: FileSystem>(
     files: &S,
     pair: &Pair<'_>,
 ) -> Result<Begun<Resumed<S::Input>>, BeginFault>
-    ensures { IfOk result (IsOpened (left_of S.Input.remaining) (resumed_has_failed S.Input.has_failed) (S.contents files.now) pair.now) }
+    ensures { IfOk result (IsOpenedOn S.FileSystem S.Input.Source files.now pair.now) }
 {
     match files.open(pair.file) {
         Ok(source) => begin(alloc, source, &pair.format, pair.place, pair.count),

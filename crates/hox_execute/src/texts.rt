@@ -4,6 +4,7 @@ ghost use Rattle.std.specs.List.{flat_map};
 ghost use Rattle.kpn_tokens.specs.Records.{record_text};
 ghost use Rattle.kpn_tokens.specs.Tables.{column_of};
 ghost use Rattle.hox_run.specs.Telling.{fitting};
+ghost use Rattle.hox_files.specs.Files.{texts_in};
 ghost use Rattle.hox_files.specs.Pairs.{channels_of, group_in};
 ghost use Rattle.hox_execute.specs.Reports.{alone_text, body_text, columns, file_note, file_text, file_texts, rate_of, table_in, text_of};
 
@@ -109,7 +110,7 @@ pub(crate) fn group_of<'a, 'b>(pairs: &'b [Pair<'a>]) -> &'b [Pair<'a>]
 }
 
 pub(crate) fn byte_names<'a>(alloc: Global, pairs: &[Pair<'a>]) -> Result<Vec<&'a [u8]>, AllocError>
-    ensures { IfOk result (λ v. map (λ name. name.now) v.items ≡ channels_of pairs.now) }
+    ensures { IfOk result (λ v. texts_in v.items ≡ channels_of pairs.now) }
 {
     let mut names = Vec::with_capacity(alloc, pairs.len())?;
     for pair in pairs {
@@ -143,7 +144,7 @@ fn text_of(
     names: &[&[u8]],
     columns: &[TokenColumn<'_>],
 ) -> Result<Listed<u8>, AllocError>
-    ensures { IfOk result (λ text. text ≡ text_of rate pair.now (map (λ name. name.now) names.now) (map column_of columns.now)) }
+    ensures { IfOk result (λ text. text ≡ text_of rate pair.now (texts_in names.now) (map column_of columns.now)) }
 {
     let frames = Some(longest(columns).min(u32::MAX as usize) as u32);
     let body = body_text(alloc, pair, columns)?;

@@ -1,7 +1,8 @@
 //! Writes a report and streams.
-ghost use Rattle.std.specs.Prelude.{◌≡◌, ◌++◌, true, List, [], ◌∷◌, Option, if◌then◌else◌, string_bytes};
-ghost use Rattle.hox_files.specs.Files.{Effect, standard, wrote};
-ghost use Rattle.hox_execute.specs.Reports.{Tries, TriesAll, Writes, reported, streams_written, told_written};
+ghost use Rattle.std.specs.Prelude.{◌≡◌, true, [], ◌∷◌, if◌then◌else◌};
+ghost use Rattle.hox_files.specs.Files.{standard, wrote};
+ghost use Rattle.hox_execute.specs.OnFiles.{TriesMore, TriesOn, WritesOn, told_due};
+ghost use Rattle.hox_execute.specs.Reports.{report_and_streams, reported, streams_written};
 
 use hox_files::files::FileSystem;
 use hox_files::pairs::{Pair, STANDARD, is_output_named};
@@ -25,7 +26,7 @@ pub(crate) fn write_told<S: FileSystem>(
     streams: &WrittenStreams<'_, '_>,
     is_quiet: bool,
 ) -> ExitStatus
-    ensures { Writes status (told_written is_quiet streams.now.outputs.now (string_bytes report.now) streams.now.texts.now) (S.is_steady files.old) (S.effects files.old) (S.effects files.new) result }
+    ensures { WritesOn S.FileSystem files.old files.new status (told_due is_quiet report.now streams.now) result }
 {
     let WrittenStreams { outputs, texts } = *streams;
     if is_quiet {
@@ -43,7 +44,7 @@ fn write_all<S: FileSystem>(
     outputs: &[Pair<'_>],
     texts: &[Listed<u8>],
 ) -> bool
-    ensures { TriesAll (reported outputs.now report.now ∷ streams_written outputs.now texts.now) result (S.is_steady files.old) (S.effects files.old) (S.is_steady files.new) (S.effects files.new) }
+    ensures { TriesOn S.FileSystem files.old files.new (report_and_streams outputs.now report.now texts.now) result }
 {
     let is_reported = write_report(files, report, outputs);
     let are_written = write_streams(files, outputs, texts);
@@ -61,7 +62,7 @@ fn status_if(is_written: bool, status: ExitStatus) -> ExitStatus
 }
 
 fn write_report<S: FileSystem>(files: &mut S, report: &str, outputs: &[Pair<'_>]) -> bool
-    ensures { TriesAll (reported outputs.now report.now ∷ []) result (S.is_steady files.old) (S.effects files.old) (S.is_steady files.new) (S.effects files.new) }
+    ensures { TriesOn S.FileSystem files.old files.new (reported outputs.now report.now ∷ []) result }
 {
     if is_output_named(outputs) {
         files.say(report).is_ok()
@@ -72,7 +73,7 @@ fn write_report<S: FileSystem>(files: &mut S, report: &str, outputs: &[Pair<'_>]
 
 /// Writes each stream to its file, even if another write fails. Returns whether all were written.
 fn write_streams<S: FileSystem>(files: &mut S, outputs: &[Pair<'_>], texts: &[Listed<u8>]) -> bool
-    ensures { TriesAll (streams_written outputs.now texts.now) result (S.is_steady files.old) (S.effects files.old) (S.is_steady files.new) (S.effects files.new) }
+    ensures { TriesOn S.FileSystem files.old files.new (streams_written outputs.now texts.now) result }
 {
     let mut are_written = true;
     for k in 0..outputs.len().min(texts.len()) {
@@ -89,7 +90,7 @@ fn write_next<S: FileSystem>(
     pair: Pair<'_>,
     text: &Listed<u8>,
 ) -> bool
-    ensures tries { (before : List Effect) (start : Option (List Effect)) → Tries before are_written start (S.effects files.old) → Tries (before ++ wrote pair.entry.file.now text.now ∷ []) result start (S.effects files.new) }
+    ensures tries { TriesMore S.FileSystem files.old files.new (wrote pair.entry.file.now text.now) are_written result }
     ensures steady { S.is_steady files.old ≡ true → (result ≡ are_written) × (S.is_steady files.new ≡ true) }
 {
     let is_written = write_stream(files, pair, text);
@@ -97,14 +98,14 @@ fn write_next<S: FileSystem>(
 }
 
 fn write_stream<S: FileSystem>(files: &mut S, pair: Pair<'_>, text: &Listed<u8>) -> bool
-    ensures { TriesAll (wrote pair.entry.file.now text.now ∷ []) result (S.is_steady files.old) (S.effects files.old) (S.is_steady files.new) (S.effects files.new) }
+    ensures { TriesOn S.FileSystem files.old files.new (wrote pair.entry.file.now text.now ∷ []) result }
 {
     files.write(pair.file, text.as_slice()).is_ok()
 }
 
 /// Writes to standard output. Returns the exit status.
 pub(crate) fn write_text<S: FileSystem>(files: &mut S, text: &[u8]) -> ExitStatus
-    ensures { Writes ExitStatus.Success (wrote standard text.now ∷ []) (S.is_steady files.old) (S.effects files.old) (S.effects files.new) result }
+    ensures { WritesOn S.FileSystem files.old files.new ExitStatus.Success (wrote standard text.now ∷ []) result }
 {
     status_if(files.write(STANDARD, text).is_ok(), ExitStatus::Success)
 }

@@ -16,17 +16,25 @@ use Rattle.kpn_model.specs.texts.Reports.{lines_upto}
 use Rattle.kpn_standard.specs.Locals.{at}
 use Rattle.kpn_picture.specs.Titles.{below}
 
+-- an argument below 0
+abbrev pub negative_text : Card → ℕ → List ℕ
+negative_text card k = codes "-" ++ decimal (at card.args k + 1)
+
 -- argument k of a card, if its title has it; for an argument -1 - n below 0 the card has n
 abbrev pub argument_text : ℕ → Card → ℕ → List ℕ
-argument_text arity card k = if nat_lt k (below card arity) then codes "-" ++ decimal (at card.args k + 1) else decimal (at card.args k)
+argument_text arity card k = if nat_lt k (below card arity) then negative_text card k else decimal (at card.args k)
 
 abbrev pub later_argument : ℕ → Card → ℕ → List ℕ
 later_argument arity card k = if nat_le arity k then [] else codes ", " ++ argument_text arity card k
 
+-- the first argument, after the key
+abbrev pub first_argument : ℕ → Card → List ℕ
+first_argument arity card = codes ", args = [" ++ argument_text arity card 0
+
 abbrev pub arguments_part : ℕ → Card → List ℕ
 arguments_part arity card =
     if arity == 0 then [] else
-    codes ", args = [" ++ argument_text arity card 0 ++ later_argument arity card 1 ++ later_argument arity card 2 ++ codes "]"
+    first_argument arity card ++ later_argument arity card 1 ++ later_argument arity card 2 ++ codes "]"
 
 -- a word is written in two's complement
 abbrev pub token_text : Token → List ℕ
@@ -94,5 +102,12 @@ module _ (net : Network) where
   abbrev pub head : List ℕ
   head = version_part (is_second net) net.step ++ codes "\nbudget = " ++ decimal net.budget ++ codes "\nprocess = [\n"
 
+  -- all processes, and all channels, a line each
+  abbrev pub processes_text : (ℕ → List ℕ × ℕ) → List ℕ
+  processes_text title = lines_upto (process_line title) (length net.processes)
+
+  abbrev pub channels_text : List ℕ
+  channels_text = flat_map channel_line net.channels
+
   abbrev pub description : (ℕ → List ℕ × ℕ) → List ℕ
-  description title = head ++ lines_upto (process_line title) (length net.processes) ++ codes "]\nchannel = [\n" ++ flat_map channel_line net.channels ++ codes "]\n"
+  description title = head ++ processes_text title ++ codes "]\nchannel = [\n" ++ channels_text ++ codes "]\n"

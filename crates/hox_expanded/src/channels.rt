@@ -1,7 +1,7 @@
 //! Channels, a line each.
 ghost use Rattle.std.specs.Prelude.{◌≡◌, ◌++◌, OnOk, string_bytes};
 ghost use Rattle.std.specs.List.{flat_map};
-ghost use Rattle.hox_expanded.specs.Description.{capacity_part, channel_line, end_part, ends_part, later_token, name_part, port_part, sort_part, state_part, token_text, tokens_part};
+ghost use Rattle.hox_expanded.specs.Description.{capacity_part, channel_line, end_part, ends_part, later_token, name_part, port_part, sort_part, state_part, token_text, tokens_part, channels_text};
 
 use kpn_model::{Channel, Kinds, Sort, Token};
 use kpn_network::Net;
@@ -139,7 +139,7 @@ fn push_channel<K: Kinds>(
 }
 
 pub(crate) fn push_channels<K: Kinds>(out: &mut String, net: &Net<K>) -> Result<(), AllocError>
-    ensures { OnOk result (string_bytes out.new ≡ string_bytes out.old ++ flat_map (channel_line net.now) net.now.channels) }
+    ensures { OnOk result (string_bytes out.new ≡ string_bytes out.old ++ channels_text net.now) }
 {
     let channels = net.channel_list();
     for channel in channels {

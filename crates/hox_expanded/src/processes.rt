@@ -1,8 +1,7 @@
 //! Processes, a line each.
-ghost use Rattle.std.specs.Prelude.{◌≡◌, ◌++◌, OnOk, length, string_bytes};
-ghost use Rattle.kpn_model.specs.texts.Reports.{lines_upto};
-ghost use Rattle.kpn_picture.specs.Titles.{name_of};
-ghost use Rattle.hox_expanded.specs.Description.{argument_text, arguments_part, kind_part, later_argument, process_line};
+ghost use Rattle.std.specs.Prelude.{◌≡◌, ◌++◌, OnOk, string_bytes};
+ghost use Rattle.kpn_picture.specs.Titles.{name_in};
+ghost use Rattle.hox_expanded.specs.Description.{argument_text, arguments_part, kind_part, later_argument, processes_text};
 
 use crate::channels::push_name;
 use kpn_model::{Card, Kinds};
@@ -50,7 +49,7 @@ fn push_arguments(out: &mut String, card: &Card, arity: usize) -> Result<(), All
 }
 
 fn push_kind(out: &mut String, title: Title) -> Result<(), AllocError>
-    ensures { OnOk result (string_bytes out.new ≡ string_bytes out.old ++ kind_part (name_of title.word.now title.number)) }
+    ensures { OnOk result (string_bytes out.new ≡ string_bytes out.old ++ kind_part (name_in title)) }
 {
     out.push_str("\", kind = \"")?;
     title.push_name(out)?;
@@ -58,7 +57,7 @@ fn push_kind(out: &mut String, title: Title) -> Result<(), AllocError>
 }
 
 pub(crate) fn push_processes<K: Titled>(out: &mut String, net: &Net<K>) -> Result<(), AllocError>
-    ensures { OnOk result (string_bytes out.new ≡ string_bytes out.old ++ lines_upto (process_line net.now K.title) (length net.now.processes)) }
+    ensures { OnOk result (string_bytes out.new ≡ string_bytes out.old ++ processes_text net.now K.title) }
 {
     for p in 0..net.processes() {
         let name = process_name(net, p);

@@ -1,5 +1,5 @@
 -- What is asked for where two uses of files can't stand beside each other.
-use Rattle.std.proofs.Common.{ℕ, Bool, List, Option, ◌⊎◌, inl, inr}
+use Rattle.std.proofs.Common.{ℕ, Bool, List, Option, inl, inr}
 use Rattle.hox_files.specs.declared.pairs.Pair.{Pair}
 use Rattle.hox_files.specs.declared.stops.Stop.{Stop}
 use Rattle.hox_files.specs.declared.stops.Stop.TheVariants.{Clash, Format, InputTwice, Memory, NoPair, Refused, Unread, Words}

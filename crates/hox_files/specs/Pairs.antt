@@ -11,8 +11,10 @@ use Rattle.hox_files.specs.declared.formats.FormatStop.TheVariants.{Alone, Head,
 use Rattle.hox_files.specs.declared.pairs.Pair.{Pair}
 use Rattle.hox_files.specs.declared.stops.Stop.{Stop}
 use Rattle.hox_files.specs.declared.stops.Stop.TheVariants.{Clash, Format, InputTwice, Memory, NoPair, Refused, Unread, Words}
-use Rattle.hox_files.specs.Files.{standard}
-use Rattle.hox_files.specs.Formats.{HasEquals, IsForm, IsNoFormat, all_channels, is_equals, named_twice}
+use Rattle.hox_files.specs.Files.{standard, texts_in}
+use Rattle.hox_files.specs.Formats.{HasEquals, IsForm, IsNoFormat, all_channels, format_texts, is_equals, named_channel, named_twice, unsigned_names}
+use Rattle.hox_files.specs.declared.formats.Formats.{Formats}
+use Rattle.std.specs.Borrow.{Bor}
 
 -- a channel in a text CHANNEL,..=FILE: the file, its place among the channels, and their number
 pub record Part : Type 0 where
@@ -32,6 +34,10 @@ parts_from file count place (name ∷ names) = part_at file count place name ∷
 abbrev pub names_in : List ℕ → List (List ℕ)
 names_in text = pieces (before_first is_equals text)
 
+-- the file given for each of these channels
+abbrev pub parts_named : List ℕ → List (Bor (List ℕ)) → List Part
+parts_named file names = parts_from file (length names) 0 (texts_in names)
+
 abbrev pub parts : List ℕ → List Part
 parts text = parts_from (after_first is_equals text) (length (names_in text)) 0 (names_in text)
 
@@ -42,6 +48,10 @@ pub record IsPair (texts unsigned : List (List ℕ)) (part : Part) (pair : Pair)
   pub place : pair.place ≡ part.place
   pub count : pair.count ≡ part.count
   pub format : IsForm texts unsigned pair.channel.now pair.file.now (form pair.format)
+
+-- a pair by these formats
+abbrev pub IsPairBy : Formats → Part → Pair → Type 0
+IsPairBy formats part pair = IsPair (format_texts formats) (unsigned_names formats) part pair
 
 -- the file is given for this channel alone
 abbrev pub is_alone : Pair → Bool
@@ -62,10 +72,27 @@ pub record IsUnlike (last pair : Pair) : Type 0 where
 abbrev pub AreShared : List Pair → Type 0
 AreShared pairs = All (λ p. is_single p ≡ false) pairs
 
--- some file has, or its formats differ
+module _ (pairs : List Pair) (file channel : List ℕ) where
+  -- item k, if there is one, is this pair
+  abbrev IsAt : ℕ → Pair → Type 0
+  IsAt k pair = get_or pairs k pair ≡ pair
+
+  -- the pair has this file and channel, and its format differs from that of the one before it
+  abbrev IsOther : Pair → Pair → Type 0
+  IsOther last pair = (pair.file.now ≡ file) × (pair.channel.now ≡ channel) × IsUnlike last pair
+
+  -- items k and k + 1 are such pairs
+  abbrev AreUnlikeAt : ℕ → Pair → Pair → Type 0
+  AreUnlikeAt k last pair = IsAt k last × IsAt (suc k) pair × (suc k < length pairs) × IsOther last pair
+
+  -- some items are
+  abbrev HasUnlike : Type 0
+  HasUnlike = (k : ℕ) × (last pair : Pair) × AreUnlikeAt k last pair
+
+-- some file of several channels has a format for one, or its formats differ
 abbrev pub IsUnshared : List Pair → FormatStop → Type 0
 IsUnshared pairs (Alone file) = Any (λ p. (p.file.now ≡ file.now) × (is_single p ≡ true)) pairs
-IsUnshared pairs (Unlike file channel) = (k : ℕ) × (last pair : Pair) × (get_or pairs k last ≡ last) × (get_or pairs (suc k) pair ≡ pair) × (suc k < length pairs) × (pair.file.now ≡ file.now) × (pair.channel.now ≡ channel.now) × IsUnlike last pair
+IsUnshared pairs (Unlike file channel) = HasUnlike pairs file.now channel.now
 IsUnshared pairs (Unknown fault) = ⊥
 IsUnshared pairs (NoUse channel) = ⊥
 IsUnshared pairs (Twice channel) = ⊥
@@ -81,6 +108,10 @@ pub record ArePairs (formats unsigned texts : List (List ℕ)) (pairs : List Pai
   pub said : AreSaid formats unsigned texts pairs
   pub shared : AreShared pairs
 
+-- these are the pairs by these formats
+abbrev pub ArePairsBy : Formats → List (List ℕ) → List Pair → Type 0
+ArePairsBy formats texts pairs = ArePairs (format_texts formats) (unsigned_names formats) texts pairs
+
 abbrev pub IsNoPair : List ℕ → List (List ℕ) → List ℕ → List ℕ → Type 0
 IsNoPair name texts option text = (option ≡ name) × Contains texts text × (HasEquals text → ⊥)
 
@@ -94,16 +125,29 @@ IsUnsaid formats name texts (Unread file error) = ⊥
 IsUnsaid formats name texts (Refused refusal) = ⊥
 IsUnsaid formats name texts (Words fault) = ⊥
 
--- or a file can't have its channels
+-- why the texts say no pairs, by these formats
+abbrev pub UnsaidBy : Formats → List ℕ → List (List ℕ) → Stop → Type 0
+UnsaidBy formats name texts stop = IsUnsaid (format_texts formats) name texts stop
+
+module _ (formats unsigned texts : List (List ℕ)) where
+  -- the texts say pairs, but some file can't have its channels
+  abbrev HasUnshared : FormatStop → Type 0
+  HasUnshared stop = (pairs : List Pair) × AreSaid formats unsigned texts pairs × IsUnshared pairs stop
+
+-- why the texts name no pairs: they say none, or a file can't have its channels
 abbrev pub IsUnpaired : List (List ℕ) → List (List ℕ) → List ℕ → List (List ℕ) → Stop → Type 0
 IsUnpaired formats unsigned name texts (NoPair option text) = IsNoPair name texts option.now text.now
-IsUnpaired formats unsigned name texts (Format stop) = IsNoFormat formats stop ⊎ ((pairs : List Pair) × AreSaid formats unsigned texts pairs × IsUnshared pairs stop)
+IsUnpaired formats unsigned name texts (Format stop) = IsNoFormat formats stop ⊎ HasUnshared formats unsigned texts stop
 IsUnpaired formats unsigned name texts Memory = Unit {0}
 IsUnpaired formats unsigned name texts InputTwice = ⊥
 IsUnpaired formats unsigned name texts (Clash one other) = ⊥
 IsUnpaired formats unsigned name texts (Unread file error) = ⊥
 IsUnpaired formats unsigned name texts (Refused refusal) = ⊥
 IsUnpaired formats unsigned name texts (Words fault) = ⊥
+
+-- why these texts name no pairs, by these formats
+abbrev pub IsUnpairedBy : Formats → List ℕ → List (List ℕ) → Stop → Type 0
+IsUnpairedBy formats name texts stop = IsUnpaired (format_texts formats) (unsigned_names formats) name texts stop
 
 -- the first pair of each file
 abbrev pub firsts : List Pair → List Pair
@@ -166,10 +210,19 @@ pub record AreUsable (inputs outputs : List Pair) (texts : List (List ℕ)) : Ty
   pub each : All (IsUsable inputs outputs) texts
   pub once : named_twice texts ≡ None
 
--- why they are not
+module _ (inputs outputs : List Pair) (channel : List ℕ) where
+  -- the text is for this channel, which has no file
+  abbrev IsUselessText : List ℕ → Type 0
+  IsUselessText text = (channel ≡ named_channel text) × (is_of_use inputs outputs channel ≡ false)
+
+  -- one of these texts is
+  abbrev HasUselessText : List (List ℕ) → Type 0
+  HasUselessText texts = (text : List ℕ) × Contains texts text × IsUselessText text
+
+-- why such texts are of no use
 abbrev pub IsUseless : List (List ℕ) → List Pair → List Pair → FormatStop → Type 0
 IsUseless texts inputs outputs (Unknown fault) = IsNoFormat texts (Unknown fault)
-IsUseless texts inputs outputs (NoUse channel) = (text : List ℕ) × Contains texts text × (channel.now ≡ before_first is_equals text) × (is_of_use inputs outputs channel.now ≡ false)
+IsUseless texts inputs outputs (NoUse channel) = HasUselessText inputs outputs channel.now texts
 IsUseless texts inputs outputs (Twice channel) = named_twice texts ≡ Some channel.now
 IsUseless texts inputs outputs (Head file fault) = ⊥
 IsUseless texts inputs outputs (Alone file) = ⊥

@@ -1,8 +1,6 @@
 -- A command's request, and the files read for it.
 use Rattle.std.specs.Prelude.{◌≡◌, ◌==◌, ◌&&◌, ◌||◌, ◌<◌, ◌⊎◌, not, ℕ, codes, Bool, false, true, List, length, map, Option, Some, IfSome, Result, Ok, Err}
 use Rattle.std.specs.List.{AllZip, Any}
-use Rattle.kpn_model.specs.declared.kinds.Card.{Card}
-use Rattle.kpn_model.specs.declared.kinds.Signature.{Signature}
 use Rattle.kpn_model.specs.Network.{Network}
 use Rattle.hox_network.specs.declared.reading.TheConstants.{LONGEST_FILE}
 use Rattle.hox_network.specs.declared.request.Fault.{Fault}
@@ -17,6 +15,7 @@ use Rattle.hox_format.specs.declared.records.HeadFault.{HeadFault}
 use Rattle.hox_format.specs.Records.{IsRecordsResult, records_bytes}
 use Rattle.hox_format.specs.Forms.{form}
 use Rattle.hox_format.specs.Heads.{layout_of}
+use Rattle.hox_files.specs.declared.files.FileSystem.{Ghosts as FileSystemOf}
 use Rattle.hox_files.specs.declared.formats.FormatStop.{FormatStop}
 use Rattle.hox_files.specs.declared.formats.FormatStop.TheVariants.{Alone, Head, NoUse, Twice, Unknown, Unlike}
 use Rattle.hox_files.specs.declared.pairs.Pair.{Pair}
@@ -30,6 +29,10 @@ use Rattle.hox_files.specs.declared.uses.Role.TheVariants.{Tokens}
 use Rattle.hox_files.specs.Formats.{is_named}
 use Rattle.hox_files.specs.Pairs.{ArePairs, AreUsable, IsUnpaired, IsUnusable, channels_of, count_standard, firsts, is_named_twice}
 use Rattle.hox_files.specs.Uses.{AreApart, IsMisuse, Used, uses_in}
+use Rattle.std.specs.Borrow.{Bor}
+use Rattle.kpn_front.specs.Names.{KindNames, Signatures}
+use Rattle.hox_files.specs.declared.uses.Use.{Use}
+use Rattle.hox_files.specs.Files.{Clashing, Contents, texts_in}
 
 -- what a command wants, as contracts see it
 pub record Want : Type 0 where
@@ -43,7 +46,16 @@ pub record Want : Type 0 where
   pub is_json : Bool
 
 abbrev pub want_of : CommandOptions → Want
-want_of wanted = record { file = wanted.file.now; workers = wanted.workers; budget = wanted.budget; show = map (λ s. s.now) wanted.show.now; formats = map (λ s. s.now) wanted.formats.now; unsigned = map (λ s. s.now) wanted.unsigned.now; is_quiet = wanted.is_quiet; is_json = wanted.is_json }
+want_of wanted = record {
+  file = wanted.file.now;
+  workers = wanted.workers;
+  budget = wanted.budget;
+  show = texts_in wanted.show.now;
+  formats = texts_in wanted.formats.now;
+  unsigned = texts_in wanted.unsigned.now;
+  is_quiet = wanted.is_quiet;
+  is_json = wanted.is_json;
+}
 
 -- a report goes to standard output, unless the command is quiet, or a stream goes there
 abbrev pub is_told : Bool → List Pair → Bool
@@ -59,8 +71,11 @@ IsErrorIn known (Failed error) = Unit {0}
 IsErrorIn known TooLong = IfSome known (λ bytes. LONGEST_FILE < length bytes)
 IsErrorIn known NoMemory = Unit {0}
 
+abbrev pub plain_decimals : Bool → Decimals
+plain_decimals is_unsigned = record { digits = 0; is_unsigned = is_unsigned }
+
 abbrev pub shown_as : List (List ℕ) → List ℕ → StreamAs Decimals
-shown_as unsigned channel = record { channel = channel; written = record { digits = 0; is_unsigned = is_named unsigned channel } }
+shown_as unsigned channel = record { channel = channel; written = plain_decimals (is_named unsigned channel) }
 
 abbrev pub written_as : Pair → StreamAs Layout
 written_as pair = record { channel = pair.channel.now; written = layout_of (form pair.format) }
@@ -72,18 +87,31 @@ pub record AsksRest (want : Want) (outputs : List Pair) (request : Request) : Ty
   pub show : request.show ≡ map (shown_as want.unsigned) want.show
   pub outputs_are : request.outputs ≡ map written_as outputs
 
+-- the records for the pair's channel among these bytes, or what is wrong before them
+abbrev pub IsReadFrom : Pair → List ℕ → Result (Option Records) HeadFault → Type 0
+IsReadFrom pair bytes result = IsRecordsResult (form pair.format) pair.place pair.count bytes true result
+
+-- a channel's file with these records of its bytes
+abbrev pub file_with : List ℕ → Records → List ℕ → TokenFile
+file_with channel records bytes = record {
+  channel = channel;
+  layout = records.layout;
+  bytes = records_bytes records bytes;
+  rate = records.rate;
+}
+
 -- the tokens of a channel are the records of its file
 pub record IsFileOf (pair : Pair) (bytes : List ℕ) (file : TokenFile) : Type 0 where
   pub channel : file.channel ≡ pair.channel.now
   pub records : Records
-  pub told : IsRecordsResult (form pair.format) pair.place pair.count bytes true (Ok (Some records))
+  pub told : IsReadFrom pair bytes (Ok (Some records))
   pub layout : file.layout ≡ records.layout
   pub bytes_are : file.bytes ≡ records_bytes records bytes
   pub rate : file.rate ≡ records.rate
 
 -- what precedes its tokens is faulty, or out of memory
 abbrev pub IsHeadFault : Pair → List ℕ → FormatStop → Type 0
-IsHeadFault pair bytes (Head file fault) = (file.now ≡ pair.file.now) × IsRecordsResult (form pair.format) pair.place pair.count bytes true (Err fault)
+IsHeadFault pair bytes (Head file fault) = (file.now ≡ pair.file.now) × IsReadFrom pair bytes (Err fault)
 IsHeadFault pair bytes (Unknown fault) = ⊥
 IsHeadFault pair bytes (NoUse channel) = ⊥
 IsHeadFault pair bytes (Twice channel) = ⊥
@@ -101,7 +129,7 @@ IsNoFileOf pair bytes (Refused refusal) = ⊥
 IsNoFileOf pair bytes (Words fault) = ⊥
 
 -- the contents of each file, if known
-module _ (contents : List ℕ → Option (List ℕ)) where
+module _ (contents : Contents) where
   abbrev pub AreBytesOf : Pair → List ℕ → Type 0
   AreBytesOf pair bytes = IfSome (contents pair.file.now) (λ known. bytes ≡ known)
 
@@ -132,7 +160,7 @@ module _ (contents : List ℕ → Option (List ℕ)) where
   IsUnfetched pairs (Words fault) = ⊥
 
   -- whether two names, each written or else read, can't be used together, if known
-  module _ (clash : List ℕ → Bool → List ℕ → Bool → Option Bool) (want : Want) (token_texts output_texts : List (List ℕ)) where
+  module _ (clash : Clashing) (want : Want) (token_texts output_texts : List (List ℕ)) where
     -- the texts name channels and files, standard input at most once, no uses clash, and this is the request
     pub record IsAsked (asked : Asked) : Type 0 where
       pub tokens : ArePairs want.formats want.unsigned token_texts asked.tokens.items
@@ -142,26 +170,59 @@ module _ (contents : List ℕ → Option (List ℕ)) where
       pub apart : AreApart clash (uses_asked want asked.tokens.items asked.outputs.items)
       pub request : IsRequest want asked.tokens.items asked.outputs.items asked.request
 
+    -- the texts of tokens name these pairs
+    abbrev AreTokens : List Pair → Type 0
+    AreTokens tokens = ArePairs want.formats want.unsigned token_texts tokens
+
+    -- the texts of outputs name these
+    abbrev AreOutputs : List Pair → Type 0
+    AreOutputs outputs = ArePairs want.formats want.unsigned output_texts outputs
+
+    -- the formats wanted don't fit these pairs
+    abbrev AreUnusable : List Pair → List Pair → Stop → Type 0
+    AreUnusable tokens outputs stop = IsUnusable want.formats tokens outputs stop
+
+    -- some file of tokens is faulty before them
+    abbrev HasHeadless : FormatStop → Type 0
+    HasHeadless stop = (tokens : List Pair) × AreTokens tokens × IsHeadless tokens stop
+
+    -- these two of the uses asked for clash
+    abbrev DoClash : List Pair → List Pair → Use → Use → Type 0
+    DoClash tokens outputs one other = IsMisuse clash (uses_asked want tokens outputs) (Clash one other)
+
     -- a text names no file, or a text on formats is none or of no use
     abbrev pub AreUnpaired : Stop → Type 0
     AreUnpaired stop =
         IsUnpaired want.formats want.unsigned (codes "tokens") token_texts stop
         ⊎ (IsUnpaired want.formats want.unsigned (codes "out") output_texts stop
-        ⊎ ((tokens outputs : List Pair) × ArePairs want.formats want.unsigned token_texts tokens × ArePairs want.formats want.unsigned output_texts outputs × IsUnusable want.formats tokens outputs stop))
+        ⊎ ((tokens outputs : List Pair) × AreTokens tokens × AreOutputs outputs × AreUnusable tokens outputs stop))
 
     -- why there is no request, for each fault
     abbrev pub IsUnasked : Stop → Type 0
     IsUnasked (NoPair option text) = AreUnpaired (NoPair option text)
-    IsUnasked (Format stop) = AreUnpaired (Format stop) ⊎ ((tokens : List Pair) × ArePairs want.formats want.unsigned token_texts tokens × IsHeadless tokens stop)
-    IsUnasked InputTwice = (tokens : List Pair) × ArePairs want.formats want.unsigned token_texts tokens × (is_named_twice want.file tokens ≡ true)
+    IsUnasked (Format stop) = AreUnpaired (Format stop) ⊎ HasHeadless stop
+    IsUnasked InputTwice = (tokens : List Pair) × AreTokens tokens × (is_named_twice want.file tokens ≡ true)
     IsUnasked (Clash one other) =
-        (tokens outputs : List Pair) × ArePairs want.formats want.unsigned token_texts tokens × ArePairs want.formats want.unsigned output_texts outputs × IsMisuse clash (uses_asked want tokens outputs) (Clash one other)
-    IsUnasked (Unread file error) = (tokens : List Pair) × ArePairs want.formats want.unsigned token_texts tokens × IsUnfetched tokens (Unread file error)
+        (tokens outputs : List Pair) × AreTokens tokens × AreOutputs outputs × DoClash tokens outputs one other
+    IsUnasked (Unread file error) = (tokens : List Pair) × AreTokens tokens × IsUnfetched tokens (Unread file error)
     IsUnasked Memory = Unit {0}
     IsUnasked (Refused refusal) = ⊥
     IsUnasked (Words fault) = ⊥
 
-  -- the description in a file is read, with this result
-  pub record ServesFile {X : Type 0} (named : List ℕ → Option (ℕ × ℕ)) (signature : Card → Option Signature) (gives : Network → Result X Fault → Type 0) (name : List ℕ) (result : Result X Fault) : Type 0 where
-    pub has_failed : Bool
-    pub serves : Serves named signature gives (contents name) false has_failed result
+  module _ {X : Type 0} (named : KindNames) (signature : Signatures) (gives : Network → Result X Fault → Type 0) where
+    -- the description in a file is read, with this result
+    pub record ServesFile (name : List ℕ) (result : Result X Fault) : Type 0 where
+      pub has_failed : Bool
+      pub serves : Serves named signature gives (contents name) false has_failed result
+
+-- the options, the texts of tokens and the texts of outputs, as they are given
+module _ {S I O : Type 0} (system : FileSystemOf S I O) (files : S) (wanted : CommandOptions) where
+  -- this is what they ask of these files
+  abbrev pub AsksFor : List (Bor (List ℕ)) → List (Bor (List ℕ)) → Asked → Type 0
+  AsksFor tokens outputs asked =
+      IsAsked (system.contents files) (system.clash files) (want_of wanted) (texts_in tokens) (texts_in outputs) asked
+
+  -- there is no request, for this reason
+  abbrev pub AsksInVain : List (Bor (List ℕ)) → List (Bor (List ℕ)) → Stop → Type 0
+  AsksInVain tokens outputs stop =
+      IsUnasked (system.contents files) (system.clash files) (want_of wanted) (texts_in tokens) (texts_in outputs) stop

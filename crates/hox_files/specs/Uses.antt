@@ -1,5 +1,5 @@
 -- The uses of files, and which of them clash.
-use Rattle.std.specs.Prelude.{◌≡◌, ◌<◌, ◌⊎◌, ◌&&◌, ◌++◌, ℕ, Bool, true, false, List, [], ◌∷◌, length, get_or, map, Option, IfSome, if◌then◌else◌}
+use Rattle.std.specs.Prelude.{◌≡◌, ◌<◌, ◌⊎◌, ◌&&◌, ◌++◌, ℕ, Bool, true, false, List, [], ◌∷◌, length, get_or, map, IfSome, if◌then◌else◌}
 use Rattle.std.specs.List.{AllPairs}
 use Rattle.std.specs.Str.{bytes_eq}
 use Rattle.hox_files.specs.declared.pairs.Pair.{Pair}
@@ -8,7 +8,8 @@ use Rattle.hox_files.specs.declared.uses.Role.TheVariants.{Description, Tokens, 
 use Rattle.hox_files.specs.declared.uses.Use.{Use}
 use Rattle.hox_files.specs.declared.stops.Stop.{Stop}
 use Rattle.hox_files.specs.declared.stops.Stop.TheVariants.{Clash, Format, InputTwice, Memory, NoPair, Refused, Unread, Words}
-use Rattle.hox_files.specs.Files.{standard}
+use Rattle.hox_files.specs.Files.{Clashing, standard}
+use Rattle.hox_files.specs.declared.uses.NamedFiles.{NamedFiles}
 
 abbrev pub is_written : Role → Bool
 is_written Description = false
@@ -36,11 +37,23 @@ used u = record { role = u.role; channel = u.channel.now; file = u.file.now }
 abbrev pub used_for : Role → Pair → Used
 used_for role pair = record { role = role; channel = pair.channel.now; file = pair.file.now }
 
+-- the use of a file for no channel
+abbrev pub use_alone : Role → List ℕ → Used
+use_alone role file = record { role = role; channel = []; file = file }
+
+-- the report's use of standard output, if it goes there
+abbrev pub report_uses : Bool → List Used
+report_uses is_told = if is_told then use_alone Report standard ∷ [] else []
+
 -- the uses of a command: the description, the inputs in this role, the outputs, and the report if it goes to
 -- standard output
 abbrev pub uses_in : Role → List ℕ → List Pair → List Pair → Bool → List Used
 uses_in role file inputs outputs is_told =
-    record { role = Description; channel = []; file = file } ∷ map (used_for role) inputs ++ map (used_for Out) outputs ++ (if is_told then record { role = Report; channel = []; file = standard } ∷ [] else [])
+    use_alone Description file ∷ map (used_for role) inputs ++ map (used_for Out) outputs ++ report_uses is_told
+
+-- the uses of the files that a command names
+abbrev pub uses_named : NamedFiles → List Used
+uses_named named = uses_in named.role named.file.now named.inputs.now named.outputs.now named.is_told
 
 -- the tokens of one channel are read from two files
 abbrev pub gives_twice : Used → Used → Bool
@@ -54,7 +67,7 @@ abbrev pub writes_output_twice : Used → Used → Bool
 writes_output_twice u v = writes_output u && writes_output v
 
 -- whether two names, each written or else read, can't be used together, if known
-module _ (clash : List ℕ → Bool → List ℕ → Bool → Option Bool) where
+module _ (clash : Clashing) where
   abbrev pub IsFileClash : Bool → Used → Used → Type 0
   IsFileClash is u v = IfSome (clash u.file (is_written u.role) v.file (is_written v.role)) (λ c. is ≡ c)
 
@@ -67,6 +80,14 @@ module _ (clash : List ℕ → Bool → List ℕ → Bool → Option Bool) where
 
   abbrev pub Clashes : Used → Used → Type 0
   Clashes u v = (gives_twice u v ≡ true) ⊎ (writes_output_twice u v ≡ true) ⊎ IsFileClash true u v
+
+  -- two uses, as the code has them, don't clash
+  abbrev pub AreUsesApart : Use → Use → Type 0
+  AreUsesApart one other = StandApart (used one) (used other)
+
+  -- two of them clash
+  abbrev pub UsesClash : Use → Use → Type 0
+  UsesClash one other = Clashes (used one) (used other)
 
   abbrev pub AreApart : List Used → Type 0
   AreApart = AllPairs StandApart

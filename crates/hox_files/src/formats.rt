@@ -1,9 +1,10 @@
 //! The formats of files, as the arguments give them.
-ghost use Rattle.std.specs.Prelude.{◌≡◌, ℕ, List, map, IfErr, IfOk, OnOk, IfSome, Some, None, if◌then◌else◌, option_map};
-ghost use Rattle.std.specs.List.{Contains, after_first, before_first};
+ghost use Rattle.std.specs.Prelude.{◌≡◌, IfErr, IfOk, OnOk, IfSome, option_map};
+ghost use Rattle.std.specs.List.{Contains, before_first};
 ghost use Rattle.hox_format.specs.Forms.{form};
 ghost use Rattle.hox_format.specs.Saying.{seen};
-ghost use Rattle.hox_files.specs.Formats.{IsForm, IsNoFormat, format_text, is_equals, is_named, is_text_of, marked, named_twice, said_for};
+ghost use Rattle.hox_files.specs.Files.{Texts, texts_in};
+ghost use Rattle.hox_files.specs.Formats.{IsFormBy, IsFormatAmong, IsNoFormat, format_in, format_text, is_equals, is_named, marked, named_twice, said_for};
 ghost use Rattle.hox_files.specs.Pairs.{AreUsable, IsUnusable, IsUsable, has_channel, is_of_use};
 
 use crate::pairs::Pair;
@@ -45,8 +46,8 @@ pub fn format_for<'a>(
     channel: &str,
     file: &str,
 ) -> Result<Format<'a>, FormatStop<'a>>
-    ensures ok { IfOk result (λ format. IsForm (map (λ t. t.now) formats.entry.texts.now) (map (λ s. s.now) formats.entry.unsigned.now) channel.now file.now (form format)) }
-    ensures fault { IfErr result (IsNoFormat (map (λ t. t.now) formats.entry.texts.now)) }
+    ensures ok { IfOk result (λ format. IsFormBy formats.entry channel.now file.now (form format)) }
+    ensures fault { IfErr result (IsNoFormat (texts_in formats.entry.texts.now)) }
 {
     match said_for(formats.texts, channel, file) {
         Ok(format) => Ok(marked(is_named(formats.unsigned, channel), format)),
@@ -66,8 +67,8 @@ fn marked<'a>(is_unsigned: bool, format: Format<'a>) -> Format<'a>
 
 /// Returns the format for a channel: the one given for it, or for all, or else the default of the file's name.
 fn said_for<'a>(texts: &[&'a str], channel: &str, file: &str) -> Result<Format<'a>, FormatFault<'a>>
-    ensures said { seen result ≡ said_for (map (λ t. t.now) texts.now) channel.now file.now }
-    ensures fault { IfErr result (λ e. IsNoFormat (map (λ t. t.now) texts.now) (FormatStop.Unknown e)) }
+    ensures said { seen result ≡ said_for (texts_in texts.now) channel.now file.now }
+    ensures fault { IfErr result (λ e. IsNoFormat (texts_in texts.now) (FormatStop.Unknown e)) }
 {
     match format_text(texts, channel) {
         Some(text) => format_of(text),
@@ -80,8 +81,8 @@ fn said_for<'a>(texts: &[&'a str], channel: &str, file: &str) -> Result<Format<'
 
 /// Returns the format in the first text for this channel.
 fn format_text<'a>(texts: &[&'a str], channel: &str) -> Option<&'a str>
-    ensures is { option_map (λ t. t.now) result ≡ format_text channel.now (map (λ t. t.now) texts.now) }
-    ensures among { IfSome result (λ format. (text : List ℕ) × Contains (map (λ t. t.now) texts.now) text × (format.now ≡ after_first is_equals text)) }
+    ensures is { option_map (λ t. t.now) result ≡ format_text channel.now (texts_in texts.now) }
+    ensures among { IfSome result (λ format. IsFormatAmong (texts_in texts.now) format.now) }
 {
     for text in texts {
         if let Some(format) = format_in(*text, channel) {
@@ -92,7 +93,7 @@ fn format_text<'a>(texts: &[&'a str], channel: &str) -> Option<&'a str>
 }
 
 fn format_in<'a>(text: &'a str, channel: &str) -> Option<&'a str>
-    ensures { option_map (λ t. t.now) result ≡ (if is_text_of channel.now text.now then Some (after_first is_equals text.now) else None) }
+    ensures { option_map (λ t. t.now) result ≡ format_in channel.now text.now }
 {
     match channel_and_file(text) {
         Some((name, format)) if name == channel => Some(format),
@@ -102,7 +103,7 @@ fn format_in<'a>(text: &'a str, channel: &str) -> Option<&'a str>
 
 /// Returns whether a channel is among these names, or `all` is.
 pub fn is_named(names: &[&str], channel: &str) -> bool
-    ensures { result ≡ is_named (map (λ s. s.now) names.now) channel.now }
+    ensures { result ≡ is_named (texts_in names.now) channel.now }
 {
     names.iter().any(|name| *name == channel || *name == ALL)
 }
@@ -115,8 +116,8 @@ pub fn check_formats<'a>(
     inputs: &[Pair<'a>],
     outputs: &[Pair<'a>],
 ) -> Result<(), Stop<'a>>
-    ensures ok { OnOk result (AreUsable inputs.now outputs.now (map (λ t. t.now) texts.now)) }
-    ensures fault { IfErr result (IsUnusable (map (λ t. t.now) texts.now) inputs.now outputs.now) }
+    ensures ok { OnOk result (AreUsable inputs.now outputs.now (texts_in texts.now)) }
+    ensures fault { IfErr result (IsUnusable (texts_in texts.now) inputs.now outputs.now) }
 {
     for text in texts {
         check_format(*text, inputs, outputs)?;
@@ -128,7 +129,7 @@ pub fn check_formats<'a>(
 }
 
 fn named_twice<'a>(texts: &[&'a str]) -> Option<&'a str>
-    ensures { option_map (λ t. t.now) result ≡ named_twice (map (λ t. t.now) texts.now) }
+    ensures { option_map (λ t. t.now) result ≡ named_twice (texts_in texts.now) }
 {
     for k in 0..texts.len() {
         let channel = channel_in(texts[k]);
@@ -154,7 +155,7 @@ fn check_format<'a>(
     outputs: &[Pair<'a>],
 ) -> Result<(), Stop<'a>>
     ensures ok { OnOk result (IsUsable inputs.now outputs.now text.now) }
-    ensures fault { (texts : List (List ℕ)) → Contains texts text.now → IfErr result (IsUnusable texts inputs.now outputs.now) }
+    ensures fault { (texts : Texts) → Contains texts text.now → IfErr result (IsUnusable texts inputs.now outputs.now) }
 {
     let Some((channel, said)) = channel_and_file(text) else {
         return Err(Stop::NoPair {

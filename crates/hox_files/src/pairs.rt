@@ -1,10 +1,10 @@
 //! Arguments that name a channel and a file.
-ghost use Rattle.std.specs.Prelude.{◌≡◌, ℕ, true, List, length, map, IfOk, IfErr, OnOk, unwrap_or, option_map, nat_lt};
+ghost use Rattle.std.specs.Prelude.{◌≡◌, ℕ, true, List, IfOk, IfErr, OnOk, unwrap_or, option_map, nat_lt};
 ghost use Rattle.std.specs.List.{All, AllZip, Contains, filter, flat_map};
 ghost use Rattle.hox_format.specs.Saying.{pieces};
-ghost use Rattle.hox_files.specs.Files.{standard};
+ghost use Rattle.hox_files.specs.Files.{Texts, standard, texts_in};
 ghost use Rattle.hox_files.specs.Formats.{HasEquals};
-ghost use Rattle.hox_files.specs.Pairs.{ArePairs, AreShared, IsPair, IsUnlike, IsUnpaired, IsUnsaid, IsUnshared, count_standard, firsts, in_order, is_alone, is_grouped, is_named_twice, is_single, parts, parts_from, shared_in};
+ghost use Rattle.hox_files.specs.Pairs.{ArePairsBy, AreShared, IsPairBy, IsUnlike, IsUnpairedBy, IsUnshared, UnsaidBy, count_standard, firsts, in_order, is_alone, is_grouped, is_named_twice, is_single, parts, parts_named, shared_in};
 
 use crate::formats::{FormatStop, Formats, format_for};
 use crate::stops::Stop;
@@ -46,8 +46,8 @@ pub fn pairs_of<'a>(
     texts: &[&'a str],
     formats: Formats<'a, '_>,
 ) -> Result<Vec<Pair<'a>>, Stop<'a>>
-    ensures ok { IfOk result (λ v. ArePairs (map (λ t. t.now) formats.entry.texts.now) (map (λ s. s.now) formats.entry.unsigned.now) (map (λ t. t.now) texts.now) v.items) }
-    ensures fault { IfErr result (IsUnpaired (map (λ t. t.now) formats.entry.texts.now) (map (λ s. s.now) formats.entry.unsigned.now) option.now (map (λ t. t.now) texts.now)) }
+    ensures ok { IfOk result (λ v. ArePairsBy formats.entry (texts_in texts.now) v.items) }
+    ensures fault { IfErr result (IsUnpairedBy formats.entry option.now (texts_in texts.now)) }
 {
     let pairs = all_pairs(alloc, option, texts, formats)?;
     match check_shared(pairs.as_slice()) {
@@ -62,9 +62,9 @@ fn all_pairs<'a>(
     texts: &[&'a str],
     formats: Formats<'a, '_>,
 ) -> Result<Vec<Pair<'a>>, Stop<'a>>
-    ensures said { IfOk result (λ _. All HasEquals (map (λ t. t.now) texts.now)) }
-    ensures each { IfOk result (λ v. AllZip (IsPair (map (λ t. t.now) formats.entry.texts.now) (map (λ s. s.now) formats.entry.unsigned.now)) (flat_map parts (map (λ t. t.now) texts.now)) v.items) }
-    ensures fault { IfErr result (IsUnsaid (map (λ t. t.now) formats.entry.texts.now) option.now (map (λ t. t.now) texts.now)) }
+    ensures said { IfOk result (λ _. All HasEquals (texts_in texts.now)) }
+    ensures each { IfOk result (λ v. AllZip (IsPairBy formats.entry) (flat_map parts (texts_in texts.now)) v.items) }
+    ensures fault { IfErr result (UnsaidBy formats.entry option.now (texts_in texts.now)) }
 {
     let mut pairs = Vec::new(alloc);
     for text in texts {
@@ -84,8 +84,8 @@ fn pairs_in<'a>(
     formats: Formats<'a, '_>,
 ) -> Result<Vec<Pair<'a>>, Stop<'a>>
     ensures said { IfOk result (λ _. HasEquals text.now) }
-    ensures each { IfOk result (λ v. AllZip (IsPair (map (λ t. t.now) formats.entry.texts.now) (map (λ s. s.now) formats.entry.unsigned.now)) (parts text.now) v.items) }
-    ensures fault { (texts : List (List ℕ)) → Contains texts text.now → IfErr result (IsUnsaid (map (λ t. t.now) formats.entry.texts.now) option.now texts) }
+    ensures each { IfOk result (λ v. AllZip (IsPairBy formats.entry) (parts text.now) v.items) }
+    ensures fault { (texts : Texts) → Contains texts text.now → IfErr result (UnsaidBy formats.entry option.now texts) }
 {
     let Some((channels, file)) = channel_and_file(text) else {
         return Err(Stop::NoPair { option, text });
@@ -97,7 +97,7 @@ fn pairs_in<'a>(
 }
 
 fn names_in<'a>(alloc: Global, text: &'a str) -> Result<Vec<&'a str>, AllocError>
-    ensures { IfOk result (λ v. map (λ s. s.now) v.items ≡ pieces text.now) }
+    ensures { IfOk result (λ v. texts_in v.items ≡ pieces text.now) }
 {
     text.split(',').collect(alloc)
 }
@@ -108,8 +108,8 @@ fn pairs_for<'a>(
     file: &'a str,
     formats: Formats<'a, '_>,
 ) -> Result<Vec<Pair<'a>>, Stop<'a>>
-    ensures each { IfOk result (λ v. AllZip (IsPair (map (λ t. t.now) formats.entry.texts.now) (map (λ s. s.now) formats.entry.unsigned.now)) (parts_from file.now (length names.now) 0 (map (λ s. s.now) names.now)) v.items) }
-    ensures fault { (option : List ℕ) (texts : List (List ℕ)) → IfErr result (IsUnsaid (map (λ t. t.now) formats.entry.texts.now) option texts) }
+    ensures each { IfOk result (λ v. AllZip (IsPairBy formats.entry) (parts_named file.now names.now) v.items) }
+    ensures fault { (option : List ℕ) (texts : Texts) → IfErr result (UnsaidBy formats.entry option texts) }
 {
     let count = names.len();
     let mut pairs = Vec::new(alloc);

@@ -1,9 +1,10 @@
 //! Reads the files of tokens that a command names.
 ghost use Rattle.std.specs.Prelude.{◌≡◌, IfOk, IfErr, IfSome, map};
 ghost use Rattle.std.specs.List.{AllZip};
+ghost use Rattle.hox_files.specs.Files.{texts_in};
 ghost use Rattle.hox_files.specs.Pairs.{channels_of};
 ghost use Rattle.hox_format.specs.Records.{records_bytes};
-ghost use Rattle.hox_files.specs.Requests.{AsksRest, IsAsked, IsErrorIn, IsFileOf, IsNoFileOf, IsRead, IsReadError, IsRequest, IsUnasked, IsUnfetched, is_told, shown_as, want_of, written_as};
+ghost use Rattle.hox_files.specs.Requests.{AsksFor, AsksInVain, AsksRest, IsErrorIn, IsFileOf, IsNoFileOf, IsRead, IsReadError, IsRequest, IsUnfetched, file_with, is_told, shown_as, want_of, written_as};
 
 use crate::files::FileSystem;
 use crate::formats::{FormatStop, Formats, check_formats, is_named};
@@ -61,8 +62,8 @@ pub fn asked_of<'a, S: FileSystem>(
     tokens: &[&'a str],
     outputs: &[&'a str],
 ) -> Result<Asked<'a>, Stop<'a>>
-    ensures ok { IfOk result (IsAsked (S.contents files.now) (S.clash files.now) (want_of wanted.entry) (map (λ t. t.now) tokens.now) (map (λ t. t.now) outputs.now)) }
-    ensures fault { IfErr result (IsUnasked (S.contents files.now) (S.clash files.now) (want_of wanted.entry) (map (λ t. t.now) tokens.now) (map (λ t. t.now) outputs.now)) }
+    ensures ok { IfOk result (AsksFor S.FileSystem files.now wanted.entry tokens.now outputs.now) }
+    ensures fault { IfErr result (AsksInVain S.FileSystem files.now wanted.entry tokens.now outputs.now) }
 {
     let formats = Formats {
         texts: wanted.formats,
@@ -147,7 +148,7 @@ fn shown_by(
     unsigned: &[&str],
     show: &[&str],
 ) -> Result<Vec<StreamAs<Decimals>>, AllocError>
-    ensures { IfOk result (λ v. v.items ≡ map (shown_as (map (λ s. s.now) unsigned.now)) (map (λ s. s.now) show.now)) }
+    ensures { IfOk result (λ v. v.items ≡ map (shown_as (texts_in unsigned.now)) (texts_in show.now)) }
 {
     let mut shown = Vec::new(alloc);
     for name in show {
@@ -180,7 +181,7 @@ fn shown_as(
     unsigned: &[&str],
     channel: &str,
 ) -> Result<StreamAs<Decimals>, AllocError>
-    ensures { IfOk result (λ stream. stream ≡ shown_as (map (λ s. s.now) unsigned.now) channel.now) }
+    ensures { IfOk result (λ stream. stream ≡ shown_as (texts_in unsigned.now) channel.now) }
 {
     Ok(StreamAs {
         channel: text_of(alloc, channel)?,
@@ -262,7 +263,7 @@ fn file_with(
     records: &Records,
     bytes: Vec<u8>,
 ) -> Result<TokenFile, AllocError>
-    ensures { IfOk result (λ file. file ≡ record { channel = channel.now; layout = records.now.layout; bytes = records_bytes records.now bytes.items; rate = records.now.rate }) }
+    ensures { IfOk result (λ file. file ≡ file_with channel.now records.now bytes.items) }
 {
     Ok(TokenFile {
         channel: text_of(alloc, channel)?,

@@ -1,7 +1,7 @@
 //! The uses of files, and which of them clash.
 ghost use Rattle.std.specs.Prelude.{◌≡◌, ◌++◌, true, false, map, IfErr, IfOk, IfSome, None, OnOk};
 ghost use Rattle.std.specs.List.{All, Contains};
-ghost use Rattle.hox_files.specs.Uses.{AreApart, Clashes, IsClash, IsMisuse, StandApart, gives_tokens, gives_twice, is_written, used, used_for, uses_in, writes_output, writes_output_twice};
+ghost use Rattle.hox_files.specs.Uses.{AreApart, AreUsesApart, IsClash, IsMisuse, UsesClash, gives_tokens, gives_twice, is_written, used, used_for, uses_named, writes_output, writes_output_twice};
 
 use crate::files::FileSystem;
 use crate::pairs::{Pair, STANDARD};
@@ -72,8 +72,8 @@ pub fn check_uses<'a, S: FileSystem>(
     files: &S,
     named: &NamedFiles<'a, '_>,
 ) -> Result<(), Stop<'a>>
-    ensures ok { OnOk result (AreApart (S.clash files.now) (uses_in named.now.role named.now.file.now named.now.inputs.now named.now.outputs.now named.now.is_told)) }
-    ensures fault { IfErr result (IsMisuse (S.clash files.now) (uses_in named.now.role named.now.file.now named.now.inputs.now named.now.outputs.now named.now.is_told)) }
+    ensures ok { OnOk result (AreApart (S.clash files.now) (uses_named named.now)) }
+    ensures fault { IfErr result (IsMisuse (S.clash files.now) (uses_named named.now)) }
 {
     let Ok(uses) = uses_of(alloc, named) else {
         return Err(Stop::Memory);
@@ -85,7 +85,7 @@ pub fn check_uses<'a, S: FileSystem>(
 }
 
 fn uses_of<'a>(alloc: Global, named: &NamedFiles<'a, '_>) -> Result<Vec<Use<'a>>, AllocError>
-    ensures { IfOk result (λ v. map used v.items ≡ uses_in named.now.role named.now.file.now named.now.inputs.now named.now.outputs.now named.now.is_told) }
+    ensures { IfOk result (λ v. map used v.items ≡ uses_named named.now) }
 {
     let mut uses = Vec::new(alloc);
     uses.push(Use {
@@ -135,8 +135,8 @@ fn clash_among<'a, S: FileSystem>(files: &S, uses: &[Use<'a>]) -> Option<(Use<'a
 
 /// Returns the first of `others` that clashes with `one`.
 fn clash_with<'a, S: FileSystem>(files: &S, one: Use<'a>, others: &[Use<'a>]) -> Option<Use<'a>>
-    ensures apart { result ≡ None → All (λ other. StandApart (S.clash files.now) (used one.entry) (used other)) others.now }
-    ensures clash { IfSome result (λ other. Contains others.now other × Clashes (S.clash files.now) (used one.entry) (used other)) }
+    ensures apart { result ≡ None → All (AreUsesApart (S.clash files.now) one.entry) others.now }
+    ensures clash { IfSome result (λ other. Contains others.now other × UsesClash (S.clash files.now) one.entry other) }
 {
     for other in others {
         if do_clash(files, one, *other) {
@@ -147,8 +147,8 @@ fn clash_with<'a, S: FileSystem>(files: &S, one: Use<'a>, others: &[Use<'a>]) ->
 }
 
 fn do_clash<S: FileSystem>(files: &S, one: Use<'_>, other: Use<'_>) -> bool
-    ensures apart { result ≡ false → StandApart (S.clash files.now) (used one.entry) (used other.entry) }
-    ensures clash { result ≡ true → Clashes (S.clash files.now) (used one.entry) (used other.entry) }
+    ensures apart { result ≡ false → AreUsesApart (S.clash files.now) one.entry other.entry }
+    ensures clash { result ≡ true → UsesClash (S.clash files.now) one.entry other.entry }
 {
     is_given_twice(one, other)
         || is_output_twice(one, other)

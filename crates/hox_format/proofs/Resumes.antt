@@ -1,5 +1,5 @@
 -- What is left of a file that is read on.
-use Rattle.std.proofs.Common.{◌≡◌, ◌<◌, ◌≤◌, ◌+◌, ◌-◌, ◌++◌, ℕ, zero, suc, Bool, true, List, [], ◌∷◌, Option, Some, None, IfSome, drop, length, length-drop, min, option_map, inl, inr, refl, sym, ap, subst, take, append-nil, append_assoc, ◌∙◌, arith}
+use Rattle.std.proofs.Common.{◌≡◌, ◌<◌, ◌≤◌, ◌+◌, ◌-◌, ◌++◌, ℕ, Bool, List, [], Option, Some, None, IfSome, drop, length, length-drop, min, option_map, inl, inr, refl, sym, ap, subst, take, append-nil, append_assoc, ◌∙◌, arith}
 use Rattle.std.proofs.Math.Seq.{take-append-add, take-nil}
 use Rattle.std.proofs.lemmas.Bool.{cases_lt}
 use Rattle.std.proofs.lemmas.List.{drop-append-le, drop-drop, drop_all, length-take-le, take-append-drop, take-append-le, take_all, take_at}

@@ -29,7 +29,13 @@ pub record Table : Type 0 where
   pub column : Option Chosen
 
 abbrev pub table_of : CsvFile → Table
-table_of csv = record { separator = csv.separator; decimals = csv.decimals; has_header = csv.has_header; column = option_map chosen csv.column }
+table_of csv =
+    record {
+      separator = csv.separator;
+      decimals = csv.decimals;
+      has_header = csv.has_header;
+      column = option_map chosen csv.column;
+    }
 
 pub data Form : Type 0 where
   lines : Decimals → Form
@@ -57,9 +63,13 @@ plain_table = table (record { separator = Comma; decimals = whole; has_header = 
 abbrev pub plain_wave : Form
 plain_wave = wave (record { channel = None; width = Two; rate = None; clips = false })
 
+-- the last four bytes, in small letters
+abbrev pub small_end : List ℕ → List ℕ
+small_end file = map to_ascii_lowercase (drop (length file - 4) file)
+
 -- the name ends in `.wav`, in letters of any case
 abbrev pub is_wav_name : List ℕ → Bool
-is_wav_name file = nat_le 4 (length file) && bytes_eq (map to_ascii_lowercase (drop (length file - 4) file)) (codes ".wav")
+is_wav_name file = nat_le 4 (length file) && bytes_eq (small_end file) (codes ".wav")
 
 abbrev pub form_of_file : List ℕ → Form
 form_of_file file = if is_wav_name file then plain_wave else plain_lines

@@ -1,12 +1,12 @@
 -- What is written to a file before, among and after the tokens.
-use Rattle.std.specs.Prelude.{◌-◌, ◌*◌, ◌%◌, ◌^◌, ◌==◌, ◌&&◌, ℕ, length, min, nat_lt, unwrap_or, if◌then◌else◌, List, [], ◌∷◌, Option, Some, None}
+use Rattle.std.specs.Prelude.{◌-◌, ◌%◌, ◌^◌, ◌==◌, ◌&&◌, ℕ, length, min, nat_lt, unwrap_or, if◌then◌else◌, List, [], ◌∷◌, Option, Some, None, map}
 use Rattle.csv.specs.Writing.{row_text}
 use Rattle.kpn_tokens.specs.declared.layouts.Layout.{Layout}
 use Rattle.kpn_tokens.specs.declared.layouts.Layout.TheVariants.{Lines, Fields, Frames}
 use Rattle.kpn_tokens.specs.declared.layouts.Sample.{Sample}
-use Rattle.kpn_tokens.specs.Heads.{body_size, names_writer, wav_sample, wav_text}
-use Rattle.kpn_tokens.specs.Samples.{bytes_in}
+use Rattle.kpn_tokens.specs.Heads.{names_writer, wav_sample, wav_text_before}
 use Rattle.hox_format.specs.declared.formats.Wav.{Wav}
+use Rattle.hox_format.specs.declared.heads.FileHead.{FileHead}
 use Rattle.hox_format.specs.Forms.{Form, lines, table, wave, samples, Table}
 
 -- a single channel has adjacent samples
@@ -28,7 +28,7 @@ abbrev pub channels_told : ℕ → ℕ
 channels_told count = min count 65535
 
 abbrev pub wave_text : Wav → ℕ → ℕ → Option ℕ → List ℕ
-wave_text wav channels rate frames = wav_text channels (bytes_in wav.width) (unwrap_or wav.rate rate) (body_size frames (channels * bytes_in wav.width))
+wave_text wav channels rate frames = wav_text_before frames channels wav.width (unwrap_or wav.rate rate)
 
 -- what precedes the tokens of the channels of these names
 abbrev pub head_text : Form → List (List ℕ) → ℕ → Option ℕ → List ℕ
@@ -48,3 +48,7 @@ tail_text (lines decimals) size frames = []
 tail_text (table t) size frames = []
 tail_text (wave wav) size frames = padding size frames
 tail_text (samples raw) size frames = []
+
+-- what precedes the tokens of a file with this head
+abbrev pub file_head_text : Form → FileHead → List ℕ
+file_head_text f head = head_text f (map (λ name. name.now) head.names.now) head.rate head.frames

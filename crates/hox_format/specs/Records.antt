@@ -1,6 +1,5 @@
 -- Where the records of a file are, and what may be wrong before them.
-use Rattle.std.specs.Prelude.{◌≡◌, ◌≤◌, ◌+◌, ◌-◌, ◌*◌, ◌^◌, ◌==◌, ℕ, Bool, drop, length, nat_lt, take, unwrap_or, if◌then◌else◌, List, Option, Some, None, IfSome, IsSome, Result, Ok, Err, IfOk}
-use Rattle.std.specs.List.{position_or_len}
+use Rattle.std.specs.Prelude.{◌≡◌, ◌≤◌, ◌*◌, ◌^◌, ◌==◌, ℕ, Bool, drop, length, nat_lt, take, unwrap_or, if◌then◌else◌, List, Option, Some, None, IfSome, IsSome, Result, Ok, Err, IfOk}
 use Rattle.kpn_tokens.specs.declared.heads.WavHead.{WavHead}
 use Rattle.kpn_tokens.specs.declared.layouts.Cut.{Cut}
 use Rattle.kpn_tokens.specs.declared.layouts.Frame.{Frame}
@@ -10,8 +9,11 @@ use Rattle.kpn_tokens.specs.declared.layouts.RecordFault.{RecordFault}
 use Rattle.kpn_tokens.specs.declared.layouts.RecordFault.TheVariants.{NoField}
 use Rattle.kpn_tokens.specs.declared.layouts.Sample.{Sample}
 use Rattle.kpn_tokens.specs.Heads.{IsFrameOf, IsWavFault, IsWavHead, IsWavWanting, column_in}
-use Rattle.kpn_tokens.specs.Rows.{is_line_feed, row_in}
-use Rattle.kpn_tokens.specs.Samples.{bytes_in}
+use Rattle.kpn_tokens.specs.Records.{first_line_length, line_cut}
+use Rattle.kpn_tokens.specs.Rows.{row_in}
+use Rattle.kpn_tokens.specs.Samples.{bytes_in, frame_at}
+use Rattle.kpn_tokens.specs.Tables.{field_column}
+use Rattle.hox_format.specs.declared.records.FirstBytes.{FirstBytes}
 use Rattle.hox_format.specs.declared.records.Records.{Records}
 use Rattle.hox_format.specs.declared.records.HeadFault.{HeadFault}
 use Rattle.hox_format.specs.declared.records.HeadFault.TheVariants.{Wav, NoColumn, Names, Channels, NoChannel, TooLong, TooWide}
@@ -32,13 +34,13 @@ to_end layout = record { layout = layout; start = 0; size = None; rate = None }
 
 -- the rows of a CSV file from a byte on, with the column at a place
 abbrev pub rows_from : Table → ℕ → ℕ → Records
-rows_from t place start = record (to_end (Fields (record { place = place; separator = t.separator; decimals = t.decimals }))) { start = start }
+rows_from t place start = record (to_end (Fields (field_column t.separator place t.decimals))) { start = start }
 
 -- the row of names ends with its line feed, or with the file, and has at most 65,536 bytes
 abbrev pub names_row : List ℕ → Bool → Result (Option Cut) HeadFault
 names_row bytes last =
-    if nat_lt 65536 (position_or_len is_line_feed bytes) then Err TooLong
-    else if nat_lt (position_or_len is_line_feed bytes) (length bytes) then Ok (Some (record { length = position_or_len is_line_feed bytes; used = position_or_len is_line_feed bytes + 1 }))
+    if nat_lt 65536 (first_line_length bytes) then Err TooLong
+    else if nat_lt (first_line_length bytes) (length bytes) then Ok (Some (line_cut bytes))
     else if last then Ok (Some (record { length = length bytes; used = length bytes })) else Ok None
 
 -- the column at a place, after the row of names
@@ -48,7 +50,8 @@ behind t place (Ok None) = Ok None
 behind t place (Ok (Some row)) = Ok (Some (rows_from t place row.used))
 
 abbrev pub placed_records : Table → ℕ → List ℕ → Bool → Result (Option Records) HeadFault
-placed_records t place bytes last = if t.has_header then behind t place (names_row bytes last) else Ok (Some (rows_from t place 0))
+placed_records t place bytes last =
+    if t.has_header then behind t place (names_row bytes last) else Ok (Some (rows_from t place 0))
 
 -- the column of a name, after the row of names
 abbrev pub name_fault : RecordFault → HeadFault
@@ -59,10 +62,14 @@ abbrev pub found : Table → ℕ → Result ℕ RecordFault → Result (Option R
 found t start (Ok place) = Ok (Some (rows_from t place start))
 found t start (Err fault) = Err (name_fault fault)
 
+-- the place of the column with this name in a row of names
+abbrev pub column_in_row : Table → List ℕ → List ℕ → Cut → Result ℕ RecordFault
+column_in_row t name bytes row = column_in name (row_in t.separator (take row.length bytes))
+
 abbrev pub named_behind : Table → List ℕ → List ℕ → Result (Option Cut) HeadFault → Result (Option Records) HeadFault
 named_behind t name bytes (Err fault) = Err fault
 named_behind t name bytes (Ok None) = Ok None
-named_behind t name bytes (Ok (Some row)) = found t row.used (column_in name (row_in t.separator (take row.length bytes)))
+named_behind t name bytes (Ok (Some row)) = found t row.used (column_in_row t name bytes row)
 
 abbrev pub named_records : Table → List ℕ → List ℕ → Bool → Result (Option Records) HeadFault
 named_records t name bytes last = named_behind t name bytes (names_row bytes last)
@@ -76,24 +83,32 @@ column_records t (Some (called name)) place bytes last = named_records t name by
 abbrev pub csv_records : Table → ℕ → List ℕ → Bool → Result (Option Records) HeadFault
 csv_records t place bytes last = column_records t t.column place bytes last
 
+-- this channel, if there are as many
+abbrev pub channel_within : ℕ → ℕ → Result ℕ HeadFault
+channel_within channel has = if nat_lt channel has then Ok channel else Err (NoChannel has)
+
 -- the chosen channel; else the one at `place`, if the file is given for as many as it has
 abbrev pub channel_of : Option ℕ → ℕ → ℕ → ℕ → Result ℕ HeadFault
-channel_of (Some channel) place count has = if nat_lt channel has then Ok channel else Err (NoChannel has)
-channel_of None place count has = if count == has then (if nat_lt place has then Ok place else Err (NoChannel has)) else Err (Channels has)
+channel_of (Some channel) place count has = channel_within channel has
+channel_of None place count has = if count == has then channel_within place has else Err (Channels has)
 
 -- the frames of one of these channels
 abbrev pub channel_frame : Sample → ℕ → ℕ → Frame
-channel_frame sample channels channel = record { before = channel * bytes_in sample.width; sample = sample; after = (channels - 1 - channel) * bytes_in sample.width }
+channel_frame sample channels channel = frame_at sample channels channel
 
 -- samples without a head: as many channels as stated, or as the file is given for
 abbrev pub framed : Sample → ℕ → Result ℕ HeadFault → Result (Option Records) HeadFault
 framed sample channels (Ok channel) = Ok (Some (to_end (Frames (channel_frame sample channels channel))))
 framed sample channels (Err fault) = Err fault
 
+-- the frames of the channel, if there is one
+abbrev pub framed_channel : Raw → ℕ → ℕ → ℕ → Result (Option Records) HeadFault
+framed_channel raw place count has = framed raw.sample has (channel_of raw.channel place count has)
+
 abbrev pub raw_records : Raw → ℕ → ℕ → Result (Option Records) HeadFault
 raw_records raw place count =
     let has = unwrap_or raw.channels count in
-    if nat_lt 65535 (has * bytes_in raw.sample.width) then Err TooWide else framed raw.sample has (channel_of raw.channel place count has)
+    if nat_lt 65535 (has * bytes_in raw.sample.width) then Err TooWide else framed_channel raw place count has
 
 -- a channel of a WAV file with this head
 pub record AreChannelRecords (head : WavHead) (channel : ℕ) (records : Records) : Type 0 where
@@ -104,19 +119,25 @@ pub record AreChannelRecords (head : WavHead) (channel : ℕ) (records : Records
   pub size : records.size ≡ head.size
   pub rate : records.rate ≡ Some head.rate
 
+-- the channel is this one, or why there is none
+abbrev pub ChannelIs : WavFile → ℕ → ℕ → WavHead → Result ℕ HeadFault → Type 0
+ChannelIs wav place count head channel = channel_of wav.channel place count head.channels ≡ channel
+
 abbrev pub IsChannelResult : WavFile → ℕ → ℕ → WavHead → Result Records HeadFault → Type 0
-IsChannelResult wav place count head (Ok records) = (channel : ℕ) × (channel_of wav.channel place count head.channels ≡ Ok channel) × AreChannelRecords head channel records
+IsChannelResult wav place count head (Ok records) =
+    (channel : ℕ) × ChannelIs wav place count head (Ok channel) × AreChannelRecords head channel records
 IsChannelResult wav place count head (Err (Wav fault)) = ⊥
 IsChannelResult wav place count head (Err NoColumn) = ⊥
 IsChannelResult wav place count head (Err (Names fault)) = ⊥
-IsChannelResult wav place count head (Err (Channels has)) = channel_of wav.channel place count head.channels ≡ Err (Channels has)
-IsChannelResult wav place count head (Err (NoChannel has)) = channel_of wav.channel place count head.channels ≡ Err (NoChannel has)
+IsChannelResult wav place count head (Err (Channels has)) = ChannelIs wav place count head (Err (Channels has))
+IsChannelResult wav place count head (Err (NoChannel has)) = ChannelIs wav place count head (Err (NoChannel has))
 IsChannelResult wav place count head (Err TooLong) = ⊥
 IsChannelResult wav place count head (Err TooWide) = 2 ^ 16 ≤ head.channels * bytes_in head.sample.width
 
 -- a channel of a WAV file; or why it has no head, or none yet
 abbrev pub AreHeadedRecords : WavFile → ℕ → ℕ → List ℕ → Result Records HeadFault → Type 0
-AreHeadedRecords wav place count bytes records = (head : WavHead) × IsWavHead bytes head × IsChannelResult wav place count head records
+AreHeadedRecords wav place count bytes records =
+    (head : WavHead) × IsWavHead bytes head × IsChannelResult wav place count head records
 
 abbrev pub AreWavRecords : WavFile → ℕ → ℕ → List ℕ → Bool → Result (Option Records) HeadFault → Type 0
 AreWavRecords wav place count bytes last (Ok (Some records)) = AreHeadedRecords wav place count bytes (Ok records)
@@ -124,8 +145,10 @@ AreWavRecords wav place count bytes last (Ok None) = IsWavWanting bytes last
 AreWavRecords wav place count bytes last (Err (Wav fault)) = IsWavFault bytes last fault
 AreWavRecords wav place count bytes last (Err NoColumn) = ⊥
 AreWavRecords wav place count bytes last (Err (Names fault)) = ⊥
-AreWavRecords wav place count bytes last (Err (Channels has)) = AreHeadedRecords wav place count bytes (Err (Channels has))
-AreWavRecords wav place count bytes last (Err (NoChannel has)) = AreHeadedRecords wav place count bytes (Err (NoChannel has))
+AreWavRecords wav place count bytes last (Err (Channels has)) =
+    AreHeadedRecords wav place count bytes (Err (Channels has))
+AreWavRecords wav place count bytes last (Err (NoChannel has)) =
+    AreHeadedRecords wav place count bytes (Err (NoChannel has))
 AreWavRecords wav place count bytes last (Err TooLong) = ⊥
 AreWavRecords wav place count bytes last (Err TooWide) = ⊥
 
@@ -135,6 +158,10 @@ IsRecordsResult (lines decimals) place count bytes last records = records ≡ Ok
 IsRecordsResult (table t) place count bytes last records = records ≡ csv_records t place bytes last
 IsRecordsResult (wave wav) place count bytes last records = AreWavRecords wav place count bytes last records
 IsRecordsResult (samples raw) place count bytes last records = records ≡ raw_records raw place count
+
+-- the records of a file with these first bytes
+abbrev pub TellsRecords : Form → ℕ → ℕ → FirstBytes → Result (Option Records) HeadFault → Type 0
+TellsRecords f place count first records = IsRecordsResult f place count first.bytes.now first.is_last records
 
 -- the records begin within these bytes
 abbrev pub IsWithin : List ℕ → Result (Option Records) HeadFault → Type 0

@@ -25,13 +25,17 @@ abbrev pub is_so_many : Option ℕ → ℕ → Bool
 is_so_many None count = true
 is_so_many (Some channels) count = channels == count
 
+-- no channel is chosen, and no other number of channels is stated
+abbrev pub takes_all : Raw → ℕ → Bool
+takes_all raw count = is_none raw.channel && is_so_many raw.channels count
+
 -- what `count` channels share, unless the format is for one channel: a line has one token, or a column or
 -- channel is chosen, or another number of channels is stated
 abbrev pub shared_by : Form → ℕ → Option Shared
 shared_by (lines decimals) count = None
 shared_by (table t) count = if is_none t.column then Some (shared_rows t.separator t.has_header) else None
 shared_by (wave wav) count = if is_none wav.channel then Some (shared_wave wav) else None
-shared_by (samples raw) count = if is_none raw.channel && is_so_many raw.channels count then Some (shared_samples raw) else None
+shared_by (samples raw) count = if takes_all raw count then Some (shared_samples raw) else None
 
 -- how a word is written, if in digits
 abbrev pub decimals_of : Form → Decimals

@@ -1,7 +1,7 @@
 //! What a file has before and after the tokens.
-ghost use Rattle.std.specs.Prelude.{◌≡◌, ◌++◌, OnErr, OnOk, map};
+ghost use Rattle.std.specs.Prelude.{◌≡◌, ◌++◌, OnErr, OnOk};
 ghost use Rattle.hox_format.specs.Forms.{form};
-ghost use Rattle.hox_format.specs.Heads.{channels_told, head_text, layout_of, tail_text};
+ghost use Rattle.hox_format.specs.Heads.{channels_told, layout_of, tail_text, file_head_text};
 
 use crate::formats::Format;
 use kpn_tokens::{Column, Frame, Layout, Sample, append_names, append_wav_head, wav_sample};
@@ -47,7 +47,7 @@ pub fn append_head(
     format: &Format<'_>,
     head: &FileHead<'_, '_>,
 ) -> Result<(), AllocError>
-    ensures { OnOk result (out.new.items ≡ out.old.items ++ head_text (form format.now) (map (λ name. name.now) head.now.names.now) head.now.rate head.now.frames) }
+    ensures { OnOk result (out.new.items ≡ out.old.items ++ file_head_text (form format.now) head.now) }
 {
     let FileHead {
         names,

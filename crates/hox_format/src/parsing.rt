@@ -2,7 +2,7 @@
 ghost use Rattle.std.specs.Prelude.{◌≡◌, ◌∷◌, ◌<◌, IfSome, Ok, length, option_map};
 ghost use Rattle.std.specs.List.{list_any};
 ghost use Rattle.hox_format.specs.Forms.{form};
-ghost use Rattle.hox_format.specs.Saying.{form_named, format_said, has_key, key_of, key_twice, later_pieces, pieces, plain_sample, sample_named, seen, setting_said, settings_said};
+ghost use Rattle.hox_format.specs.Saying.{form_named, format_said, has_key, key_of, key_twice, later_pieces, pieces, plain_sample, sample_named, seen, setting_said, settings_said, later_pieces_of};
 
 use crate::formats::{Csv, Format, Raw, Wav};
 use crate::settings::{with_flag, with_value};
@@ -51,7 +51,7 @@ fn with_settings<'a>(
     format: Format<'a>,
     settings: Option<&'a str>,
 ) -> Result<Format<'a>, FormatFault<'a>>
-    ensures { seen result ≡ settings_said (Ok (form format.entry)) (later_pieces (option_map (λ t. t.now) settings.entry)) }
+    ensures { seen result ≡ settings_said (Ok (form format.entry)) (later_pieces_of settings.entry) }
 {
     let mut changed = format;
     let mut rest = settings;
@@ -65,7 +65,7 @@ fn with_settings<'a>(
 
 /// Returns the first key that a later setting repeats.
 fn key_twice(settings: Option<&str>) -> Option<&str>
-    ensures { option_map (λ t. t.now) result ≡ key_twice (later_pieces (option_map (λ t. t.now) settings.entry)) }
+    ensures { option_map (λ t. t.now) result ≡ key_twice (later_pieces_of settings.entry) }
 {
     let mut sought = settings;
     while let Some(text) = sought {
@@ -80,7 +80,7 @@ fn key_twice(settings: Option<&str>) -> Option<&str>
 }
 
 fn has_key(settings: Option<&str>, key: &str) -> bool
-    ensures { result ≡ list_any (has_key key.now) (later_pieces (option_map (λ t. t.now) settings.entry)) }
+    ensures { result ≡ list_any (has_key key.now) (later_pieces_of settings.entry) }
 {
     let mut others = settings;
     while let Some(text) = others {

@@ -3,7 +3,7 @@ ghost use Rattle.std.specs.Prelude.{◌≡◌, ◌<◌, ◌≤◌, ◌*◌, ◌^
 ghost use Rattle.std.specs.List.{position_or_len};
 ghost use Rattle.kpn_tokens.specs.Rows.{is_line_feed};
 ghost use Rattle.kpn_tokens.specs.Samples.{bytes_in};
-ghost use Rattle.hox_format.specs.Records.{AreWavRecords, IsChannelResult, IsRecordsResult, IsTold, IsWithin, channel_frame, channel_of, csv_records, name_fault, named_records, names_row, placed_records, raw_records, records_bytes, rows_from, to_end};
+ghost use Rattle.hox_format.specs.Records.{AreWavRecords, IsChannelResult, IsTold, IsWithin, channel_frame, channel_of, csv_records, name_fault, named_records, names_row, placed_records, raw_records, records_bytes, rows_from, to_end, TellsRecords};
 ghost use Rattle.hox_format.specs.Forms.{form, table_of};
 
 use crate::formats::{Csv, Format, Raw, Wav, Which};
@@ -64,7 +64,7 @@ pub fn records_in(
     count: usize,
     first: &FirstBytes<'_>,
 ) -> Result<Result<Option<Records>, HeadFault>, AllocError>
-    ensures records { IfOk result (IsRecordsResult (form format.now) place count first.now.bytes.now first.now.is_last) }
+    ensures records { IfOk result (TellsRecords (form format.now) place count first.now) }
     ensures within { IfOk result (IsWithin first.now.bytes.now) }
     ensures told { first.now.is_last ≡ true → IfOk result IsTold }
 {

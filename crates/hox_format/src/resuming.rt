@@ -1,7 +1,7 @@
 //! Opens files at their records.
-ghost use Rattle.std.specs.Prelude.{◌≡◌, ◌≤◌, ℕ, List, false, drop, vec_len, Option, IfErr, IfOk, OnOk};
+ghost use Rattle.std.specs.Prelude.{◌≡◌, ◌≤◌, false, vec_len, Option, IfErr, IfOk, OnOk};
 ghost use Rattle.hox_format.specs.Forms.{form};
-ghost use Rattle.hox_format.specs.Resuming.{IsBegun, IsFrontOf, IsNoHead, IsUnbegun, left_in, left_of, resumed_has_failed, source_of};
+ghost use Rattle.hox_format.specs.Resuming.{IsNoHead, IsUnbegun, left_of, resumed_has_failed, source_of, HasNotFailed, IsBegunBy, StaysFront, left_after};
 
 use crate::formats::Format;
 use crate::records::{FirstBytes, HeadFault, Records, records_in};
@@ -49,8 +49,8 @@ pub fn begin<S: Source + Drop>(
     place: usize,
     count: usize,
 ) -> Result<Begun<Resumed<S>>, BeginFault>
-    ensures begun { IfOk result (λ b. IsBegun (form format.now) place count (S.remaining source) b.layout b.rate (left_of S.remaining b.source)) }
-    ensures unfailed { S.has_failed source ≡ false → IfOk result (λ b. resumed_has_failed S.has_failed b.source ≡ false) }
+    ensures begun { IfOk result (IsBegunBy S.remaining (form format.now) place count source) }
+    ensures unfailed { S.has_failed source ≡ false → IfOk result (HasNotFailed S.has_failed) }
     ensures refused { IfErr result (IsUnbegun (form format.now) place count (S.remaining source)) }
 {
     let mut front = Front {
@@ -83,7 +83,7 @@ struct Front<S> {
 
 fn resumed_at<S: Source>(front: Front<S>, records: Records) -> Begun<Resumed<S>>
     requires { records.start ≤ vec_len front.held }
-    ensures left { left_of S.remaining result.source ≡ left_in records.size (drop records.start front.held.items) (S.remaining front.source) }
+    ensures left { left_of S.remaining result.source ≡ left_after records front.held.items (S.remaining front.source) }
     ensures failed { resumed_has_failed S.has_failed result.source ≡ S.has_failed front.source }
     ensures layout { result.layout ≡ records.layout }
     ensures rate { result.rate ≡ records.rate }
@@ -107,7 +107,7 @@ fn resumed_at<S: Source>(front: Front<S>, records: Records) -> Begun<Resumed<S>>
 
 /// Reads another piece.
 fn read_on<S: Source>(front: &mut Front<S>) -> Result<(), BeginFault>
-    ensures reads { OnOk result ((known : Option (List ℕ)) → IsFrontOf known front.old.held.items front.old.is_last (S.remaining front.old.source) → IsFrontOf known front.new.held.items front.new.is_last (S.remaining front.new.source)) }
+    ensures reads { OnOk result (StaysFront S.remaining front.old front.new) }
     ensures unfailed { S.has_failed front.old.source ≡ false → OnOk result (S.has_failed front.new.source ≡ false) }
     ensures fault { IfErr result IsNoHead }
 {

@@ -1,9 +1,9 @@
 //! The keys of formats.
-ghost use Rattle.std.specs.Prelude.{◌≡◌, ◌<◌, ◌≤◌, ◌^◌, ◌-◌, IfSome, option_map};
+ghost use Rattle.std.specs.Prelude.{◌≡◌, ◌<◌, ◌≤◌, ◌-◌, IfSome, option_map};
 ghost use Rattle.std.specs.Char.{is_ascii_digit};
 ghost use Rattle.std.specs.List.{list_all};
-ghost use Rattle.hox_format.specs.Forms.{chosen, form, lines, samples, table_of, wave};
-ghost use Rattle.hox_format.specs.Saying.{column_said, count_said, csv_flag, csv_value, digits_said, flag_said, is_number, number_said, place_said, raw_flag, raw_value, seen, separator_said, taken, text_flag, text_value, value_said, wav_flag, wav_value, width_said, with_channel, with_channels, with_column, with_decimals, with_separator};
+ghost use Rattle.hox_format.specs.Forms.{chosen, form, lines, samples, table_of};
+ghost use Rattle.hox_format.specs.Saying.{column_said, count_said, csv_flag, csv_value, digits_said, flag_said, is_number, number_said, place_said, raw_flag, raw_value, seen, separator_said, taken, text_flag, text_value, value_said, wav_flag, wav_value, width_said, with_channel, with_channels, with_column, with_separator, csv_digits_said, wav_channel_said, wav_rate_said, wav_width_said};
 
 use crate::formats::{Csv, Format, Raw, Wav, Which, unsigned};
 use crate::parsing::FormatFault;
@@ -186,7 +186,7 @@ fn separator_in(value: &str) -> Option<Separator>
 }
 
 fn csv_digits<'a>(csv: Csv<'a>, value: &str) -> Option<Format<'a>>
-    ensures { option_map form result ≡ option_map (with_decimals (table_of csv.entry)) (digits_said csv.entry.decimals value.now) }
+    ensures { option_map form result ≡ csv_digits_said (table_of csv.entry) value.now }
 {
     let decimals = with_digits(csv.decimals, value)?;
     Some(Format::Csv(Csv { decimals, ..csv }))
@@ -214,7 +214,7 @@ fn wav_value<'a>(wav: Wav, key: &'a str, value: &'a str) -> Result<Format<'a>, F
 }
 
 fn wav_channel(wav: Wav, value: &str) -> Option<Format<'static>>
-    ensures { option_map form result ≡ option_map (λ channel. wave (record wav { channel = Some channel })) (place_said 65535 value.now) }
+    ensures { option_map form result ≡ wav_channel_said wav value.now }
 {
     let place = place_in(value, 65535)?;
     Some(Format::Wav(Wav {
@@ -224,7 +224,7 @@ fn wav_channel(wav: Wav, value: &str) -> Option<Format<'static>>
 }
 
 fn wav_bits(wav: Wav, value: &str) -> Option<Format<'static>>
-    ensures { option_map form result ≡ option_map (λ width. wave (record wav { width = width })) (width_said value.now) }
+    ensures { option_map form result ≡ wav_width_said wav value.now }
 {
     let width = width_in(value)?;
     Some(Format::Wav(Wav { width, ..wav }))
@@ -243,7 +243,7 @@ fn width_in(value: &str) -> Option<Width>
 }
 
 fn wav_rate(wav: Wav, value: &str) -> Option<Format<'static>>
-    ensures { option_map form result ≡ option_map (λ rate. wave (record wav { rate = Some rate })) (count_said (2 ^ 32 - 1) value.now) }
+    ensures { option_map form result ≡ wav_rate_said wav value.now }
 {
     let rate = count_in(value, 0xFFFFFFFF)?;
     Some(Format::Wav(Wav {

@@ -1,23 +1,22 @@
 -- Lines that were read, put together.
-use Rattle.std.proofs.Common.{◌≡◌, ◌∙◌, ℕ, ◌<◌, Bool, true, false, ◌||◌, ◌&&◌, not, List, [], ◌∷◌, ◌++◌, Option, Some, None, get_or, zero, suc, ◌==◌, length, map, set, refl, sym, ap, subst, append_assoc, arith}
+use Rattle.std.proofs.Common.{◌≡◌, ◌∙◌, ℕ, ◌<◌, Bool, true, false, ◌||◌, ◌&&◌, not, List, [], ◌∷◌, ◌++◌, Some, None, get_or, zero, suc, ◌==◌, length, set, refl, sym, ap, subst, append_assoc, arith}
 use Rattle.std.proofs.lemmas.Bool.{eqb-true}
 use Rattle.kpn_signals.specs.Arithmetic.{difference}
 use Rattle.kpn_formula.specs.declared.instruction.Instruction.{Instruction}
 use Rattle.kpn_formula.specs.declared.instruction.Instruction.TheVariants.{Store}
-use Rattle.kpn_formula.specs.Programs.{Working, run}
+use Rattle.kpn_formula.specs.Programs.{run}
 use Rattle.hox_formula.specs.declared.symbol.Mark.{Mark}
 use Rattle.hox_formula.specs.declared.symbol.Mark.TheVariants as mark
 use Rattle.hox_formula.specs.declared.symbol.Symbol.{Symbol}
 use Rattle.hox_formula.specs.declared.symbol.Symbol.TheVariants.{Number, Output, State}
 use Rattle.hox_formula.specs.declared.left_side.LeftSide.{LeftSide}
-use Rattle.hox_formula.specs.declared.fragment.Fragment.{Fragment}
 use Rattle.hox_formula.specs.declared.lines.Assignment.{Assignment}
 use Rattle.hox_formula.specs.declared.lines.Lines.{Lines}
-use Rattle.hox_formula.specs.Expressions.{Expression, value, is_flag, uses}
-use Rattle.hox_formula.specs.Grammar.{Naming, Says, place_of, sign}
-use Rattle.hox_formula.specs.Fragments.{working, Computes, Means}
+use Rattle.hox_formula.specs.Expressions.{value, is_flag, uses}
+use Rattle.hox_formula.specs.Grammar.{Naming, place_of, sign}
+use Rattle.hox_formula.specs.Fragments.{working, Computes}
 use Rattle.hox_formula.specs.Parsing.{Parsed}
-use Rattle.hox_formula.specs.Formulas.{Line, SaysHead, output, state, started, below, SaysLine, SaysLines, none, line, after, head_of, is_output, uses_in, gives_flags}
+use Rattle.hox_formula.specs.Formulas.{Line, output, state, started, below, SaysLines, none, line, is_output}
 use Rattle.hox_formula.specs.Collecting.{HeadRead, LineRead, Performs, LinesRead}
 
 pub empty_list : (xs : List Symbol) → (length xs == 0) ≡ true → xs ≡ []

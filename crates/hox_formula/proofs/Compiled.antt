@@ -1,18 +1,16 @@
 -- What a compiled card means.
-use Rattle.std.proofs.Common.{◌≡◌, ◌∙◌, ℕ, suc, ◌+◌, ◌-◌, ◌<◌, ◌≤◌, false, true, List, [], ◌∷◌, ◌++◌, Some, map, length, get_or, refl, sym, ap, subst, arith}
+use Rattle.std.proofs.Common.{◌≡◌, ◌∙◌, ℕ, suc, ◌+◌, ◌-◌, ◌≤◌, List, [], ◌∷◌, ◌++◌, Some, map, length, refl, sym, ap, subst, arith}
 use Rattle.std.specs.Prelude.{replicate}
 use Rattle.kpn_model.specs.declared.kinds.Card.{Card}
 use Rattle.kpn_formula.specs.declared.instruction.Instruction.{Instruction}
 use Rattle.kpn_formula.specs.declared.shape.Shape.{Shape}
-use Rattle.kpn_formula.specs.Programs.{Working, run, values_after}
-use Rattle.kpn_formula.specs.Cards.{round_of, opening_of}
+use Rattle.kpn_formula.specs.Programs.{Working, values_after}
 use Rattle.kpn_formula.specs.Encoding.{IsCardOf}
 use Rattle.hox_formula.specs.declared.left_side.LeftSide.{LeftSide}
 use Rattle.hox_formula.specs.declared.symbol.Symbol.{Symbol}
 use Rattle.hox_formula.specs.declared.lines.Lines.{Lines}
 use Rattle.hox_formula.specs.Grammar.{Naming}
-use Rattle.hox_formula.specs.Fragments.{working}
-use Rattle.hox_formula.specs.Formulas.{Line, after, head_of, target_of, first_start, uses_in, gives_flags, in_sort, out_sort, each_port, IsNaming, IsFormula, IsCompiled}
+use Rattle.hox_formula.specs.Formulas.{Line, after, head_of, target_of, first_start, in_sort, out_sort, each_port, IsNaming, IsCompiled}
 use Rattle.hox_formula.specs.Collecting.{Performs, LinesRead}
 use Rattle.hox_formula.specs.Compiling.{Opens}
 

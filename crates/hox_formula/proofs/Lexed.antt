@@ -1,12 +1,12 @@
 -- Symbols that bytes spell, put together.
-use Rattle.std.proofs.Common.{◌≡◌, ◌∙◌, ℕ, suc, ◌<◌, ◌≤◌, ◌==◌, Bool, true, false, ◌&&◌, if◌then◌else◌, List, [], ◌∷◌, ◌++◌, Option, Some, None, length, map, refl, sym, ap, subst, append_assoc, arith}
+use Rattle.std.proofs.Common.{◌≡◌, ◌∙◌, ℕ, suc, ◌<◌, ◌≤◌, ◌==◌, Bool, true, false, ◌&&◌, if◌then◌else◌, List, [], ◌∷◌, ◌++◌, Option, Some, None, length, refl, sym, ap, subst, append_assoc, arith}
 use Rattle.std.specs.Prelude.{option_map}
 use Rattle.std.specs.declared.vec.Vec.{Vec}
 use Rattle.std.proofs.lemmas.Bool.{eq-eqb, eqb-true}
 use Rattle.hox_formula.specs.declared.symbol.Mark.{Mark}
 use Rattle.hox_formula.specs.declared.symbol.Symbol.{Symbol}
 use Rattle.hox_formula.specs.Grammar.{sign}
-use Rattle.hox_formula.specs.Lexing.{is_blank, is_word_byte, begins_with_word_byte, begins_pair, single_mark, front_word, behind_word, same, place_in, word_symbol, texts, Spells, ended, blank, pair, single, word, PairAt, SpellsMark, SpellsNothing, SpellsOne, SpellsSo, IsPlaceOf, IsWordOf, IsNext, Extends}
+use Rattle.hox_formula.specs.Lexing.{is_blank, is_word_byte, begins_with_word_byte, begins_pair, single_mark, front_word, behind_word, same, place_in, word_symbol, texts, Spells, ended, blank, pair, single, word, PairAt, SpellsMark, SpellsNothing, SpellsSo, IsPlaceOf, IsWordOf, IsNext}
 
 pub pair_spells : (bytes left : List ℕ) (m : Mark) → PairAt bytes left m → SpellsMark bytes left m
 pair_spells bytes left m p =

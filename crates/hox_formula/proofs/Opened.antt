@@ -1,9 +1,9 @@
 -- Code that gives states their start values, put together.
-use Rattle.std.proofs.Common.{◌≡◌, ◌∙◌, ℕ, suc, ◌+◌, ◌-◌, List, [], ◌∷◌, ◌++◌, length, set, refl, sym, ap, subst, append_assoc, length-append, arith}
+use Rattle.std.proofs.Common.{◌≡◌, ◌∙◌, ℕ, suc, ◌+◌, ◌-◌, List, [], ◌∷◌, ◌++◌, length, set, refl, sym, ap, append_assoc, length-append, arith}
 use Rattle.std.specs.Prelude.{replicate}
 use Rattle.kpn_formula.specs.declared.instruction.Instruction.{Instruction}
 use Rattle.kpn_formula.specs.declared.instruction.Instruction.TheVariants.{Store}
-use Rattle.kpn_formula.specs.Programs.{Working, run}
+use Rattle.kpn_formula.specs.Programs.{run}
 use Rattle.hox_formula.specs.Expressions.{Constant}
 use Rattle.hox_formula.specs.Fragments.{working, Computes}
 use Rattle.hox_formula.specs.Compiling.{Opens}

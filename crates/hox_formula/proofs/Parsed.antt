@@ -1,5 +1,5 @@
 -- Parts of the symbols that say expressions, put together.
-use Rattle.std.proofs.Common.{◌≡◌, ◌∙◌, ℕ, ◌+◌, ◌<◌, true, List, [], ◌∷◌, ◌++◌, Option, Some, refl, sym, ap, append_assoc}
+use Rattle.std.proofs.Common.{◌≡◌, ◌∙◌, ℕ, ◌+◌, ◌<◌, true, List, [], ◌∷◌, ◌++◌, Some, sym, ap, append_assoc}
 use Rattle.kpn_formula.specs.declared.instruction.Operation.{Operation}
 use Rattle.hox_formula.specs.declared.symbol.Mark.{Mark}
 use Rattle.hox_formula.specs.declared.symbol.Mark.TheVariants as mark

@@ -1,9 +1,10 @@
 -- Which symbols say which formula, and what that means.
-use Rattle.std.specs.Prelude.{◌≡◌, ℕ, ◌<◌, ◌==◌, ◌||◌, nat_lt, Bool, true, false, if◌then◌else◌, List, [], ◌∷◌, ◌++◌, Option, Some, None, set, map, replicate, length, unwrap_or, ◌+◌, ◌-◌, ◌&&◌, not}
+use Rattle.std.specs.Prelude.{◌≡◌, ℕ, ◌<◌, ◌==◌, ◌||◌, nat_lt, Bool, true, false, if◌then◌else◌, List, [], ◌∷◌, ◌++◌, Option, Some, None, set, map, replicate, length, unwrap_or, ◌+◌, ◌-◌, ◌&&◌, not, get_or}
 use Rattle.std.specs.List.{list_any}
 use Rattle.kpn_model.specs.declared.token.Sort.{Sort}
 use Rattle.kpn_model.specs.declared.token.Sort.TheVariants.{Words, Flags}
 use Rattle.kpn_model.specs.declared.kinds.Card.{Card}
+use Rattle.kpn_formula.specs.declared.shape.Shape.{Shape}
 use Rattle.kpn_formula.specs.Programs.{values_after}
 use Rattle.kpn_formula.specs.Cards.{round_of, opening_of}
 use Rattle.kpn_formula.specs.Shapes.{shape_of}
@@ -26,12 +27,20 @@ abbrev pub after : List Line → List ℕ → List ℕ
 after [] vs = vs
 after (l ∷ ls) vs = after ls (set vs l.place (value l.expression vs))
 
+-- state i, which begins with n
+abbrev pub state_from : ℕ → ℕ → LeftSide
+state_from i n = record { target = State i; start = Some n }
+
+-- state i, with the number -n in parentheses
+abbrev pub with_negative : ℕ → ℕ → List Symbol
+with_negative i n = State i ∷ sign mark.Open ∷ sign mark.Minus ∷ Number n ∷ sign mark.Close ∷ []
+
 -- symbols say to what a line assigns, and the start value
 pub data SaysHead : List Symbol → LeftSide → Type 0 where
   output : (k : ℕ) → SaysHead (Output k ∷ []) (record { target = Output k; start = None })
   state : (i : ℕ) → SaysHead (State i ∷ []) (record { target = State i; start = None })
-  started : (i n : ℕ) → SaysHead (State i ∷ sign mark.Open ∷ Number n ∷ sign mark.Close ∷ []) (record { target = State i; start = Some n })
-  below : (i n : ℕ) → SaysHead (State i ∷ sign mark.Open ∷ sign mark.Minus ∷ Number n ∷ sign mark.Close ∷ []) (record { target = State i; start = Some (difference 0 n) })
+  started : (i n : ℕ) → SaysHead (State i ∷ sign mark.Open ∷ Number n ∷ sign mark.Close ∷ []) (state_from i n)
+  below : (i n : ℕ) → SaysHead (with_negative i n) (state_from i (difference 0 n))
 
 -- symbols say a line, without the `;` behind it
 pub record SaysLine (names : Naming) (symbols : List Symbol) (l : Line) : Type 0 where
@@ -45,7 +54,8 @@ pub record SaysLine (names : Naming) (symbols : List Symbol) (l : Line) : Type 0
 -- lines, each with a `;` behind it
 pub data SaysLines (names : Naming) : List Symbol → List Line → Type 0 where
   none : SaysLines names [] []
-  line : (xs ys : List Symbol) (l : Line) (ls : List Line) → SaysLine names xs l → SaysLines names ys ls → SaysLines names (xs ++ (sign mark.Semicolon ∷ ys)) (l ∷ ls)
+  line : (xs ys : List Symbol) (l : Line) (ls : List Line)
+      → SaysLine names xs l → SaysLines names ys ls → SaysLines names (xs ++ (sign mark.Semicolon ∷ ys)) (l ∷ ls)
 
 abbrev pub head_of : Line → LeftSide
 head_of l = l.head
@@ -107,9 +117,13 @@ pub record IsFormula (names : Naming) (symbols : List Symbol) (lines : List Line
   pub naming : IsNaming names symbols (map target_of (map head_of lines))
   pub says : SaysLines names symbols lines
 
+-- the sort of an input: words if some line uses its value as a word
+abbrev pub input_sort : Naming → List Line → ℕ → Sort
+input_sort names lines k = if uses_in (length names.states + names.outputs + k) lines then Words else Flags
+
 -- the sorts of the ports
 abbrev pub in_sort : Naming → List Line → ℕ → Option Sort
-in_sort names lines k = if nat_lt k names.inputs then Some (if uses_in (length names.states + names.outputs + k) lines then Words else Flags) else None
+in_sort names lines k = if nat_lt k names.inputs then Some (input_sort names lines k) else None
 
 abbrev pub out_sort : Naming → List Line → ℕ → Option Sort
 out_sort names lines k = if nat_lt k names.outputs then Some (if gives_flags k lines then Flags else Words) else None
@@ -117,8 +131,38 @@ out_sort names lines k = if nat_lt k names.outputs then Some (if gives_flags k l
 abbrev pub each_port : (ℕ → Option Sort) → List (Option Sort)
 each_port sort = sort 0 ∷ sort 1 ∷ sort 2 ∷ []
 
+-- which values are used as words, and which outputs become flags alone
+abbrev pub AreWordsOf : List Bool → List Line → Type 0
+AreWordsOf words lines = (place : ℕ) → place < 6 → get_or words place false ≡ uses_in place lines
+
+abbrev pub AreFlagsOf : List Bool → List Line → Type 0
+AreFlagsOf flags lines = (j : ℕ) → j < 3 → get_or flags j true ≡ gives_flags j lines
+
+-- the shape of the formula, and its first values
+abbrev pub formula_shape : Naming → List Line → Shape
+formula_shape names lines =
+    record {
+      states = length names.states;
+      ins = each_port (in_sort names lines);
+      outs = each_port (out_sort names lines);
+    }
+
+abbrev pub first_values : Naming → List Line → List ℕ
+first_values names lines =
+    map (first_start (map head_of lines)) names.states ++ replicate (6 - length names.states) 0
+
+-- the shape is that of the formula with such lines
+abbrev pub IsShapeOf : Naming → List Bool → List Bool → Shape → Type 0
+IsShapeOf names words flags shape =
+    (lines : List Line) → AreWordsOf words lines → AreFlagsOf flags lines → shape ≡ formula_shape names lines
+
 -- the card is that of the formula
 pub record IsCompiled (names : Naming) (lines : List Line) (card : Card) : Type 0 where
   pub round : (vs : List ℕ) → values_after (round_of card) vs ≡ after lines vs
-  pub opening : values_after (opening_of card) (replicate 6 0) ≡ map (first_start (map head_of lines)) names.states ++ replicate (6 - length names.states) 0
-  pub shaped : shape_of card ≡ Some (record { states = length names.states; ins = each_port (in_sort names lines); outs = each_port (out_sort names lines) })
+  pub opening : values_after (opening_of card) (replicate 6 0) ≡ first_values names lines
+  pub shaped : shape_of card ≡ Some (formula_shape names lines)
+
+-- the symbols say a formula, and the card is that of it
+abbrev pub IsCardOfSymbols : List Symbol → Card → Type 0
+IsCardOfSymbols symbols card =
+    (names : Naming) × (lines : List Line) × IsFormula names symbols lines × IsCompiled names lines card

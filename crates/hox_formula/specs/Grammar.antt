@@ -87,15 +87,28 @@ called _ = None
 abbrev pub sign : Mark → Symbol
 sign m = symbol.Mark m
 
--- Level 0 is that of a choice, 1 to 10 are those of operators between two expressions, 11 is that of operators in front,
--- and 12 that of what holds together by itself.
+-- two expressions in parentheses behind a mark
+abbrev pub call_of_two : Mark → List Symbol → List Symbol → List Symbol
+call_of_two m xs ys = sign m ∷ sign mark.Open ∷ xs ++ (sign mark.Comma ∷ ys ++ (sign mark.Close ∷ []))
+
+-- Level 0 is that of a choice, 1 to 10 are those of operators between two expressions, 11 is that of operators in
+-- front, and 12 that of what holds together by itself.
 pub data Says (names : Naming) : ℕ → List Symbol → Expression → Type 0 where
   number : (n : ℕ) → Says names 12 (Number n ∷ []) (Constant n)
   name : (s : Symbol) (k : ℕ) → place_of names s ≡ Some k → Says names 12 (s ∷ []) (Place k)
-  nested : (xs : List Symbol) (e : Expression) → Says names 0 xs e → Says names 12 (sign mark.Open ∷ xs ++ (sign mark.Close ∷ [])) e
-  absolute : (xs : List Symbol) (e : Expression) → Says names 0 xs e → Says names 12 (sign mark.Abs ∷ sign mark.Open ∷ xs ++ (sign mark.Close ∷ [])) (Size e)
-  call : (m : Mark) (op : Operation) (xs ys : List Symbol) (d e : Expression) → called m ≡ Some op → Says names 0 xs d → Says names 0 ys e → Says names 12 (sign m ∷ sign mark.Open ∷ xs ++ (sign mark.Comma ∷ ys ++ (sign mark.Close ∷ []))) (Applied op d e)
-  front : (m : Mark) (xs : List Symbol) (e : Expression) → is_front m ≡ true → Says names 11 xs e → Says names 11 (sign m ∷ xs) (fronted m e)
-  between : (m : Mark) (level : ℕ) (xs ys : List Symbol) (d e : Expression) → 0 < level → level_of m ≡ level → Says names level xs d → Says names (level + 1) ys e → Says names level (xs ++ (sign m ∷ ys)) (joined m d e)
-  choice : (xs ys zs : List Symbol) (c d e : Expression) → Says names 1 xs c → Says names 0 ys d → Says names 0 zs e → Says names 0 (xs ++ (sign mark.Question ∷ ys ++ (sign mark.Colon ∷ zs))) (Choice c d e)
+  nested : (xs : List Symbol) (e : Expression)
+      → Says names 0 xs e → Says names 12 (sign mark.Open ∷ xs ++ (sign mark.Close ∷ [])) e
+  absolute : (xs : List Symbol) (e : Expression)
+      → Says names 0 xs e → Says names 12 (sign mark.Abs ∷ sign mark.Open ∷ xs ++ (sign mark.Close ∷ [])) (Size e)
+  call : (m : Mark) (op : Operation) (xs ys : List Symbol) (d e : Expression)
+      → called m ≡ Some op → Says names 0 xs d → Says names 0 ys e
+      → Says names 12 (call_of_two m xs ys) (Applied op d e)
+  front : (m : Mark) (xs : List Symbol) (e : Expression)
+      → is_front m ≡ true → Says names 11 xs e → Says names 11 (sign m ∷ xs) (fronted m e)
+  between : (m : Mark) (level : ℕ) (xs ys : List Symbol) (d e : Expression)
+      → 0 < level → level_of m ≡ level → Says names level xs d → Says names (level + 1) ys e
+      → Says names level (xs ++ (sign m ∷ ys)) (joined m d e)
+  choice : (xs ys zs : List Symbol) (c d e : Expression)
+      → Says names 1 xs c → Says names 0 ys d → Says names 0 zs e
+      → Says names 0 (xs ++ (sign mark.Question ∷ ys ++ (sign mark.Colon ∷ zs))) (Choice c d e)
   tighter : (level : ℕ) (xs : List Symbol) (e : Expression) → Says names (level + 1) xs e → Says names level xs e

@@ -132,10 +132,16 @@ word_symbol names w =
 -- The longest word or sign stands first. Blanks stand between symbols.
 pub data Spells (names : List (List ℕ)) : List ℕ → List Symbol → Type 0 where
   ended : Spells names [] []
-  blank : (b : ℕ) (bytes : List ℕ) (symbols : List Symbol) → is_blank b ≡ true → Spells names bytes symbols → Spells names (b ∷ bytes) symbols
-  pair : (a b : ℕ) (bytes : List ℕ) (m : Mark) (symbols : List Symbol) → pair_mark a b ≡ Some m → Spells names bytes symbols → Spells names (a ∷ b ∷ bytes) (sign m ∷ symbols)
-  single : (a : ℕ) (bytes : List ℕ) (m : Mark) (symbols : List Symbol) → begins_pair (a ∷ bytes) ≡ false → single_mark a ≡ Some m → Spells names bytes symbols → Spells names (a ∷ bytes) (sign m ∷ symbols)
-  word : (bytes : List ℕ) (s : Symbol) (symbols : List Symbol) → begins_with_word_byte bytes ≡ true → word_symbol names (front_word bytes) ≡ Some s → Spells names (behind_word bytes) symbols → Spells names bytes (s ∷ symbols)
+  blank : (b : ℕ) (bytes : List ℕ) (symbols : List Symbol)
+      → is_blank b ≡ true → Spells names bytes symbols → Spells names (b ∷ bytes) symbols
+  pair : (a b : ℕ) (bytes : List ℕ) (m : Mark) (symbols : List Symbol)
+      → pair_mark a b ≡ Some m → Spells names bytes symbols → Spells names (a ∷ b ∷ bytes) (sign m ∷ symbols)
+  single : (a : ℕ) (bytes : List ℕ) (m : Mark) (symbols : List Symbol)
+      → begins_pair (a ∷ bytes) ≡ false → single_mark a ≡ Some m → Spells names bytes symbols
+      → Spells names (a ∷ bytes) (sign m ∷ symbols)
+  word : (bytes : List ℕ) (s : Symbol) (symbols : List Symbol)
+      → begins_with_word_byte bytes ≡ true → word_symbol names (front_word bytes) ≡ Some s
+      → Spells names (behind_word bytes) symbols → Spells names bytes (s ∷ symbols)
 
 -- the first bytes are the word at the front, and the others stand behind it
 pub record EndsWord (n : ℕ) (bytes : List ℕ) : Type 0 where
@@ -171,11 +177,20 @@ IsPlaceOf old new w i = ((later : List (List ℕ)) → place_in (new ++ later) w
 abbrev pub PairAt : List ℕ → List ℕ → Mark → Type 0
 PairAt bytes left m = (a : ℕ) × (b : ℕ) × (bytes ≡ a ∷ b ∷ left) × (pair_mark a b ≡ Some m)
 
+-- whatever is spelled by what is left, the mark comes before it; or nothing does
+abbrev pub PutsMark : List ℕ → List ℕ → Mark → Type 0
+PutsMark bytes left m =
+    (names : List (List ℕ)) (more : List Symbol) → Spells names left more → Spells names bytes (sign m ∷ more)
+
+abbrev pub PutsNothing : List ℕ → List ℕ → Type 0
+PutsNothing bytes left =
+    (names : List (List ℕ)) (more : List Symbol) → Spells names left more → Spells names bytes more
+
 abbrev pub SpellsMark : List ℕ → List ℕ → Mark → Type 0
-SpellsMark bytes left m = ((names : List (List ℕ)) (more : List Symbol) → Spells names left more → Spells names bytes (sign m ∷ more)) × (length left < length bytes)
+SpellsMark bytes left m = PutsMark bytes left m × (length left < length bytes)
 
 abbrev pub SpellsNothing : List ℕ → List ℕ → Type 0
-SpellsNothing bytes left = ((names : List (List ℕ)) (more : List Symbol) → Spells names left more → Spells names bytes more) × (length left ≤ length bytes)
+SpellsNothing bytes left = PutsNothing bytes left × (length left ≤ length bytes)
 
 abbrev pub IsNext : List (List ℕ) → List (List ℕ) → List ℕ → List ℕ → Symbol → Type 0
 IsNext old new bytes left s = SpellsOne new bytes left s × Extends old new × (length left < length bytes)

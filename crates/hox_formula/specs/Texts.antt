@@ -13,7 +13,7 @@ IsTail [] = Unit {0}
 IsTail (s ∷ []) = s ≡ sign mark.Semicolon
 IsTail _ = ⊥
 
--- The text spells symbols that say a formula, if a last `;` is added where it is left out, and the card is that of the formula.
+-- The text spells symbols that say a formula, once a last `;` is added if left out; the card is that of the formula.
 pub record IsCardOfText (text : List ℕ) (card : Card) : Type 0 where
   pub table : List (List ℕ)
   pub symbols : List Symbol

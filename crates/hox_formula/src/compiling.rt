@@ -1,10 +1,9 @@
 //! From symbols to cards.
-ghost use Rattle.std.specs.Prelude.{◌≡◌, ℕ, ◌<◌, ◌≤◌, ◌+◌, Bool, true, false, get_or, List, Some, length, map, IsTrue, IfOk, MatchOption, [], ◌∷◌, if◌then◌else◌};
+ghost use Rattle.std.specs.Prelude.{◌≡◌, ◌<◌, ◌≤◌, ◌+◌, Bool, true, false, List, Some, length, map, IsTrue, IfOk, MatchOption, [], ◌∷◌, if◌then◌else◌};
 ghost use Rattle.kpn_formula.specs.Encoding.{IsEncodable, AreEncodable};
 ghost use Rattle.hox_formula.specs.Parsing.{naming};
-ghost use Rattle.hox_formula.specs.Formulas.{Line, first_start, uses_in, gives_flags, in_sort, out_sort, each_port, IsFormula, IsCompiled, IsNaming, is_state, target_of, head_of};
-ghost use Rattle.hox_formula.specs.Grammar.{Naming};
-ghost use Rattle.hox_formula.specs.Collecting.{LinesRead};
+ghost use Rattle.hox_formula.specs.Formulas.{Line, first_start, in_sort, out_sort, is_state, AreFlagsOf, AreWordsOf, IsCardOfSymbols, IsShapeOf};
+ghost use Rattle.hox_formula.specs.Collecting.{IsFormulaRead};
 ghost use Rattle.hox_formula.specs.Compiling.{Opens};
 
 use crate::expression::Parser;
@@ -97,7 +96,7 @@ fn are_encodable(code: &[Instruction]) -> bool
 
 /// Returns the sort of an input, if it is there, given which values are used as words.
 fn in_sort(names: &Names, words: [bool; 6], k: u8) -> Option<Sort>
-    ensures { (lines : List Line) → ((place : ℕ) → place < 6 → get_or words place false ≡ uses_in place lines) → result ≡ in_sort (naming names.now) lines k }
+    ensures { (lines : List Line) → AreWordsOf words lines → result ≡ in_sort (naming names.now) lines k }
 {
     if k >= names.inputs {
         return None;
@@ -114,7 +113,7 @@ fn in_sort(names: &Names, words: [bool; 6], k: u8) -> Option<Sort>
 /// Returns the sort of an output, if it is there, given which outputs become flags alone.
 fn out_sort(names: &Names, flags: [bool; 3], k: u8) -> Option<Sort>
     requires { k < 3 }
-    ensures { (lines : List Line) → ((j : ℕ) → j < 3 → get_or flags j true ≡ gives_flags j lines) → result ≡ out_sort (naming names.now) lines k }
+    ensures { (lines : List Line) → AreFlagsOf flags lines → result ≡ out_sort (naming names.now) lines k }
 {
     if k >= names.outputs {
         return None;
@@ -129,8 +128,7 @@ fn out_sort(names: &Names, flags: [bool; 3], k: u8) -> Option<Sort>
 
 /// Returns the shape of a formula.
 fn shape(names: &Names, words: [bool; 6], flags: [bool; 3]) -> Shape
-    ensures { (lines : List Line) → ((place : ℕ) → place < 6 → get_or words place false ≡ uses_in place lines) → ((j : ℕ) → j < 3 → get_or flags j true ≡ gives_flags j lines) →
-        result ≡ record { states = length names.now.states.items; ins = each_port (in_sort (naming names.now) lines); outs = each_port (out_sort (naming names.now) lines) } }
+    ensures { IsShapeOf (naming names.now) words flags result }
 {
     let ins = [
         in_sort(names, words, 0),
@@ -215,7 +213,7 @@ fn is_same(first: LeftSide, second: LeftSide) -> bool {
 
 /// Returns the lines of a formula, with its names.
 fn formula_of(alloc: Global, symbols: &[Symbol]) -> Result<(Names, Lines), ParseFault>
-    ensures { IfOk result (λ r. (read : LinesRead (naming r.0) symbols.now r.1) × IsNaming (naming r.0) symbols.now (map target_of (map head_of read.lines))) }
+    ensures { IfOk result (λ r. IsFormulaRead (naming r.0) symbols.now r.1) }
 {
     let guessed = names_of(alloc, symbols, &targets_of(alloc, symbols)?)?;
     let lines = {
@@ -235,7 +233,7 @@ fn formula_of(alloc: Global, symbols: &[Symbol]) -> Result<(Names, Lines), Parse
 
 /// Returns the card of a formula's symbols, where a `;` stands behind each line.
 pub fn card_of_symbols(alloc: Global, symbols: &[Symbol]) -> Result<Card, ParseFault>
-    ensures { IfOk result (λ card. (names : Naming) × (lines : List Line) × IsFormula names symbols.now lines × IsCompiled names lines card) }
+    ensures { IfOk result (IsCardOfSymbols symbols.now) }
 {
     let (names, lines) = formula_of(alloc, symbols)?;
     if starts_late(&lines.heads) {

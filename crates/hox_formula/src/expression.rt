@@ -1,10 +1,10 @@
 //! From symbols to code, without a tree.
-ghost use Rattle.std.specs.Prelude.{◌≡◌, ℕ, ◌<◌, ◌≤◌, ◌+◌, ◌^◌, ◌∷◌, ◌++◌, List, length, true, IfOk, IfSome};
+ghost use Rattle.std.specs.Prelude.{◌≡◌, ℕ, ◌<◌, ◌≤◌, ◌+◌, ◌^◌, ◌∷◌, length, true, IfOk, IfSome};
 ghost use Rattle.hox_formula.specs.declared.symbol.Symbol.{Symbol};
 ghost use Rattle.hox_formula.specs.Expressions.{Expression};
-ghost use Rattle.hox_formula.specs.Grammar.{level_of, joined, sign, is_front, fronted, called, Says};
+ghost use Rattle.hox_formula.specs.Grammar.{level_of, joined, sign, is_front, fronted, called};
 ghost use Rattle.hox_formula.specs.Fragments.{Means};
-ghost use Rattle.hox_formula.specs.Parsing.{naming, Parsed};
+ghost use Rattle.hox_formula.specs.Parsing.{naming, Parsed, ParsesCall, ParsesChoice};
 
 use crate::fault::{Expected, ParseFault, Wrong};
 use crate::fragment::Fragment;
@@ -207,7 +207,7 @@ impl<'a> Parser<'a> {
         symbols: &'s [Symbol],
         depth: u8,
     ) -> Result<(Fragment, &'s [Symbol]), ParseFault>
-        ensures { IfOk result (λ r. (xs : List Symbol) (c : Expression) → Says (naming self.now.names.now) 1 xs c → Means condition c → Parsed (naming self.now.names.now) 0 (xs ++ (sign Mark.Question ∷ symbols.now)) r.1.now r.0) }
+        ensures { IfOk result (λ r. ParsesChoice (naming self.now.names.now) condition symbols.now r.1.now r.0) }
     {
         let depth = deeper(symbols, depth)?;
         let (first, rest) = self.whole(symbols, depth)?;
@@ -331,7 +331,7 @@ impl<'a> Parser<'a> {
         symbols: &'s [Symbol],
         depth: u8,
     ) -> Result<(Fragment, &'s [Symbol]), ParseFault>
-        ensures { IfOk result (λ r. called mark ≡ Some operation → Parsed (naming self.now.names.now) 12 (sign mark ∷ symbols.now) r.1.now r.0) }
+        ensures { IfOk result (λ r. ParsesCall (naming self.now.names.now) mark operation symbols.now r.1.now r.0) }
     {
         let depth = deeper(symbols, depth)?;
         let rest = expect(symbols, Mark::Open, Expected::Open)?;

@@ -1,9 +1,9 @@
 //! Code that computes an expression.
-ghost use Rattle.std.specs.Prelude.{◌≡◌, ℕ, ◌<◌, ◌^◌, ◌||◌, ◌&&◌, not, ◌++◌, ◌∷◌, [], Bool, false, get_or, List, IfOk, IfSome};
+ghost use Rattle.std.specs.Prelude.{◌≡◌, ℕ, ◌<◌, ◌^◌, ◌||◌, ◌&&◌, ◌++◌, ◌∷◌, [], Bool, false, get_or, List, IfOk, IfSome};
 ghost use Rattle.kpn_formula.specs.Operations.{applied};
 ghost use Rattle.kpn_formula.specs.declared.instruction.Operation.{Operation};
-ghost use Rattle.hox_formula.specs.Expressions.{Expression, Constant, Place, Negation, Size, Both, Either, Applied, Choice, is_place, uses};
-ghost use Rattle.hox_formula.specs.Fragments.{StandsFor, Computes, Knows, Means};
+ghost use Rattle.hox_formula.specs.Expressions.{Expression, Constant, Place, Negation, Size, Both, Either, Applied, Choice, is_place};
+ghost use Rattle.hox_formula.specs.Fragments.{StandsFor, Computes, Knows, Means, ComputesApplied, MeansChoice, MeansJoined, uses_in_condition};
 
 use crate::number::{is_short, number_code};
 use kpn_formula::{Instruction, Operation};
@@ -76,7 +76,7 @@ fn facts_of_place(place: u8) -> Facts
 
 /// Returns which values an expression uses as words if it is a condition.
 fn condition_words(facts: Facts) -> [bool; 6]
-    ensures { (e : Expression) → Knows facts e → (k : ℕ) → k < 6 → get_or result k false ≡ (not (is_place e) && uses k e) }
+    ensures { (e : Expression) → Knows facts e → (k : ℕ) → k < 6 → get_or result k false ≡ uses_in_condition k e }
 {
     if facts.is_place {
         [false; 6]
@@ -226,7 +226,7 @@ fn applied_code(
     first: Vec<Instruction>,
     second: Fragment,
 ) -> Result<Vec<Instruction>, AllocError>
-    ensures { IfOk result (λ code. (d e : Expression) → Computes first.items d → Means second e → Computes code.items (Applied operation d e)) }
+    ensures { IfOk result (λ code. ComputesApplied operation first.items second code.items) }
 {
     match short(operation, second.facts.number) {
         Some(instruction) => followed(first, &[instruction]),
@@ -278,7 +278,7 @@ impl Fragment {
         first: Fragment,
         second: Fragment,
     ) -> Result<Fragment, AllocError>
-        ensures { IfOk result (λ f. (d e : Expression) → Means first d → Means second e → Means f (Applied operation d e)) }
+        ensures { IfOk result (MeansJoined (λ d e. Applied operation d e) first second) }
     {
         let facts = facts_of_applied(operation, first.facts, second.facts);
         if let Some(number) = facts.number {
@@ -303,7 +303,7 @@ impl Fragment {
         first: Fragment,
         second: Fragment,
     ) -> Result<Fragment, AllocError>
-        ensures { IfOk result (λ f. (d e : Expression) → Means first d → Means second e → Means f (Negation (Applied Operation.Subtract d e))) }
+        ensures { IfOk result (MeansJoined (λ d e. Negation (Applied Operation.Subtract d e)) first second) }
     {
         let difference = Fragment::applied(alloc, Operation::Subtract, first, second)?;
         Fragment::negation(difference)
@@ -311,7 +311,7 @@ impl Fragment {
 
     /// Returns the code of whether the first expression isn't less than the second.
     pub fn unless(alloc: Global, first: Fragment, second: Fragment) -> Result<Fragment, AllocError>
-        ensures { IfOk result (λ f. (d e : Expression) → Means first d → Means second e → Means f (Negation (Applied Operation.IsLess d e))) }
+        ensures { IfOk result (MeansJoined (λ d e. Negation (Applied Operation.IsLess d e)) first second) }
     {
         let less = Fragment::applied(alloc, Operation::IsLess, first, second)?;
         Fragment::negation(less)
@@ -354,7 +354,7 @@ impl Fragment {
         first: Fragment,
         second: Fragment,
     ) -> Result<Fragment, AllocError>
-        ensures { IfOk result (λ f. (c d e : Expression) → Means condition c → Means first d → Means second e → Means f (Choice c d e)) }
+        ensures { IfOk result (MeansChoice condition first second) }
     {
         let facts = facts_of_choice(condition.facts, first.facts, second.facts);
         let both = followed(first.code, &second.code)?;

@@ -1,9 +1,9 @@
 //! From symbols to lines.
-ghost use Rattle.std.specs.Prelude.{◌≡◌, ℕ, ◌<◌, ◌∷◌, ◌++◌, false, ◌||◌, ◌&&◌, not, Bool, get_or, true, List, length, IfOk};
+ghost use Rattle.std.specs.Prelude.{◌≡◌, ℕ, ◌<◌, ◌∷◌, false, ◌||◌, ◌&&◌, not, Bool, get_or, true, List, length, IfOk};
 ghost use Rattle.hox_formula.specs.Grammar.{Naming};
 ghost use Rattle.hox_formula.specs.Parsing.{naming};
 ghost use Rattle.hox_formula.specs.Formulas.{is_output};
-ghost use Rattle.hox_formula.specs.Collecting.{HeadRead, LineRead, LinesRead};
+ghost use Rattle.hox_formula.specs.Collecting.{HeadRead, LineRead, LinesRead, IsWithLine};
 
 use crate::expression::{DEEPEST, Parser, after, expect, front};
 use crate::fault::{Expected, ParseFault, Wrong};
@@ -125,10 +125,7 @@ fn with_flags(flags: [bool; 3], target: Symbol, is_flag: bool) -> [bool; 3]
 
 /// Returns a line and then others.
 fn with_line(line: Assignment, others: Lines) -> Result<Lines, AllocError>
-    ensures { IfOk result (λ r. (r.code.items ≡ line.fragment.code.items ++ (Instruction.Store line.place ∷ others.code.items))
-        × (r.heads.items ≡ line.head ∷ others.heads.items)
-        × ((k : ℕ) → k < 6 → get_or r.words k false ≡ (get_or line.fragment.facts.words k false || get_or others.words k false))
-        × ((k : ℕ) → k < 3 → get_or r.flags k true ≡ ((not (is_output k line.head.target) || line.fragment.facts.is_flag) && get_or others.flags k true))) }
+    ensures { IfOk result (IsWithLine line others) }
 {
     let facts = line.fragment.facts;
     let words = either_words(facts.words, others.words);

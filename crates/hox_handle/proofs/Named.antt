@@ -1,5 +1,5 @@
 -- One word more comes off a text.
-use Rattle.std.proofs.Common.{◌≡◌, ℕ, List, [], ◌∷◌, ◌++◌, refl, subst}
+use Rattle.std.proofs.Common.{ℕ, List, [], ◌∷◌, ◌++◌, refl, subst}
 use Rattle.hox_handle.specs.Names.{TakesWord, TakesWords}
 
 pub takes_more : (text : List ℕ) (ws : List (List ℕ)) (mid w rest : List ℕ) → TakesWords text ws mid → TakesWord mid w rest → TakesWords text (ws ++ w ∷ []) rest

@@ -1,7 +1,6 @@
 -- What `open_stream` answers, of the text whose sketch it was given.
-use Rattle.std.proofs.Common.{◌≡◌, ◌≢◌, ◌⊎◌, inl, inr, ℕ, List, Result, Ok, Err, refl, false, Some, subst, ap}
+use Rattle.std.proofs.Common.{◌⊎◌, inl, inr, ℕ, List, Err, false, subst}
 use Rattle.kpn_model.specs.Network.{Network}
-use Rattle.kpn_model.specs.declared.limits.TheConstants.{LONGEST_TEXT}
 use Rattle.kpn_sketch.specs.declared.fault.NetFault.{NetFault}
 use Rattle.kpn_sketch.specs.declared.sketch.Sketch.{Sketch}
 use Rattle.kpn_sketch.specs.Description.{delayed_of}
@@ -17,7 +16,7 @@ use Rattle.hox_stream.specs.declared.starting.StreamFault.TheVariants.{Descripti
 use Rattle.hox_handle.specs.declared.opening.SessionFault.TheVariants.{NoText, Unopened}
 use Rattle.hox_handle.specs.declared.opening.SessionFault.{SessionFault}
 use Rattle.hox_handle.specs.Names.{AreNames}
-use Rattle.hox_handle.specs.Opening.{all_named, all_ports, flow_named, flow_ports, flow_sketch, IsNoNames, IsReadAs, IsSessionFault, IsUnopened, OpensBetween}
+use Rattle.hox_handle.specs.Opening.{flow_named, flow_ports, flow_sketch, IsNoNames, IsReadAs, IsSessionFault, IsUnopened, OpensBetween}
 use Rattle.hox_handle.specs.Sessions.{flow_kinds}
 
 module _ (text : List ℕ) (fed drained : List (List ℕ)) (sketch : Sketch) (read : IsReadAs text sketch) where

@@ -5,6 +5,7 @@ use Rattle.kpn_model.specs.declared.kinds.Signature.{Signature}
 use Rattle.kpn_sketch.specs.declared.sketch.Delayed.{Delayed}
 use Rattle.kpn_sketch.specs.declared.sketch.Sketch.{Sketch}
 use Rattle.kpn_sketch.specs.Description.{DescribesDelayed, delayed_of}
+use Rattle.kpn_model.specs.Network.{Network}
 use Rattle.kpn_net.specs.Sketched.{net_of}
 use Rattle.kpn_standard.specs.Signatures.{named as standard_named, signature as standard_ports}
 use Rattle.kpn_signals.specs.Signatures.{number_named as signal_named, ports as signal_ports}
@@ -46,6 +47,14 @@ flow_ports = both_ports all_ports exit_ports
 abbrev pub flow_sketch : List ℕ → List (List ℕ) → Delayed → Sketch
 flow_sketch text drained written = with_exits drained (as_meant all_named all_ports text written)
 
+-- that sketch, once `write` has written the formulas out
+abbrev pub flow_sketch_by : List ℕ → List (List ℕ) → (Delayed → Delayed) → Delayed → Sketch
+flow_sketch_by text drained write described = flow_sketch text drained (write described)
+
+-- the network of that sketch
+abbrev pub flow_net : List ℕ → List (List ℕ) → Delayed → Network
+flow_net text drained written = net_of flow_named (flow_sketch text drained written)
+
 -- a text describes this sketch, once completed
 abbrev pub IsReadAs : List ℕ → Sketch → Type 0
 IsReadAs text sketch = IsSketchOf all_named all_ports text sketch
@@ -56,7 +65,7 @@ pub record OpensBetween (text : List ℕ) (fed drained : List (List ℕ)) (start
   pub written : Delayed
   pub describes : DescribesDelayed text described
   pub out : IsWrittenOut described written
-  pub started : IsStarted flow_kinds (net_of flow_named (flow_sketch text drained written)) fed drained start
+  pub started : IsStarted flow_kinds (flow_net text drained written) fed drained start
 
 -- the names are given as two texts
 pub record Opens (text inputs outputs : List ℕ) (start : FlowView) : Type 0 where
@@ -72,13 +81,13 @@ pub record IsEndFault (text : List ℕ) (fed drained : List (List ℕ)) (fault :
   pub written : Delayed
   pub describes : DescribesDelayed text described
   pub out : IsWrittenOut described written
-  pub faulty : IsStreamFault flow_kinds (net_of flow_named (flow_sketch text drained written)) (λ _. ⊥) fed drained fault
+  pub faulty : IsStreamFault flow_kinds (flow_net text drained written) (λ _. ⊥) fed drained fault
 
 -- the text describes no network, with this fault
 pub record IsTextFault (text : List ℕ) (drained : List (List ℕ)) (fault : NetFault) : Type 0 where
   pub write : Delayed → Delayed
   pub out : WritesOut text write
-  pub loads : LoadsChanged delayed_of (λ described. flow_sketch text drained (write described)) flow_named flow_ports false text (Err fault)
+  pub loads : LoadsChanged delayed_of (flow_sketch_by text drained write) flow_named flow_ports false text (Err fault)
 
 -- why no flow is opened between channels of these names
 abbrev pub IsUnopened : List ℕ → List (List ℕ) → List (List ℕ) → StreamFault → Type 0
@@ -93,7 +102,7 @@ abbrev pub IsSessionFault : List ℕ → List ℕ → List ℕ → SessionFault 
 IsSessionFault text inputs outputs NoText = (IsUtf8 inputs → ⊥) ⊎ (IsUtf8 outputs → ⊥)
 IsSessionFault text inputs outputs (Unopened Memory) = Unit {0}
 IsSessionFault text inputs outputs (Unopened fault) =
-    (fed : List (List ℕ)) × (drained : List (List ℕ)) × AreNames inputs fed × AreNames outputs drained × IsUnopened text fed drained fault
+    (fed drained : List (List ℕ)) × AreNames inputs fed × AreNames outputs drained × IsUnopened text fed drained fault
 
 -- why a text has no names: it is not UTF-8, or out of memory
 abbrev pub IsNoNames : List ℕ → SessionFault → Type 0

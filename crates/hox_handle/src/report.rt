@@ -1,8 +1,8 @@
 //! Reports how a flow stands.
-ghost use Rattle.std.specs.Prelude.{◌≡◌, ◌++◌, IfOk, OnOk, length, string_bytes};
-ghost use Rattle.kpn_model.specs.texts.Reports.{lines_upto};
+ghost use Rattle.std.specs.Prelude.{◌≡◌, IfOk, OnOk, string_bytes};
 ghost use Rattle.kpn_state.specs.Standings.{is_busy, standing};
-ghost use Rattle.hox_handle.specs.Reports.{channel_line, count_line, process_line, stand_line, TellsStand};
+ghost use Rattle.kpn_report.specs.Text.{AppendsText};
+ghost use Rattle.hox_handle.specs.Reports.{channel_line, count_line, lines_of_channels, lines_of_processes, process_line, stand_line, TellsStand};
 ghost use Rattle.hox_handle.specs.Sessions.{flow_kinds};
 
 use crate::session::Session;
@@ -37,7 +37,7 @@ impl Session {
 }
 
 fn push_stand(out: &mut String, stand: Pause) -> Result<(), AllocError>
-    ensures { OnOk result (string_bytes out.new ≡ string_bytes out.old ++ stand_line stand) }
+    ensures { OnOk result (AppendsText out.old out.new (stand_line stand)) }
 {
     out.push_str(match stand {
         Pause::Cut => "goes on\n",
@@ -64,7 +64,7 @@ fn push_process<K: Kinds>(
     places: &[Place],
     p: usize,
 ) -> Result<(), AllocError>
-    ensures { OnOk result (string_bytes out.new ≡ string_bytes out.old ++ process_line net.now standings.now places.now p) }
+    ensures { OnOk result (AppendsText out.old out.new (process_line net.now standings.now places.now p)) }
 {
     let name = process_name(net, p);
     if is_busy(standings, p) {
@@ -89,7 +89,7 @@ fn push_processes<K: Kinds>(
     standings: &[Standing],
     places: &[Place],
 ) -> Result<(), AllocError>
-    ensures { OnOk result (string_bytes out.new ≡ string_bytes out.old ++ lines_upto (process_line net.now standings.now places.now) (length net.now.processes)) }
+    ensures { OnOk result (AppendsText out.old out.new (lines_of_processes net.now standings.now places.now)) }
 {
     for p in 0..net.processes() {
         push_process(out, net, standings, places, p)?;
@@ -98,7 +98,7 @@ fn push_processes<K: Kinds>(
 }
 
 fn push_channel<B: Body>(out: &mut String, flow: &Flow<B>, c: usize) -> Result<(), AllocError>
-    ensures { OnOk result (string_bytes out.new ≡ string_bytes out.old ++ channel_line flow.now.network flow.now.state c) }
+    ensures { OnOk result (AppendsText out.old out.new (channel_line flow.now.network flow.now.state c)) }
 {
     let name = channel_name(flow.net(), c);
     let (left, capacity) = flow.tokens_and_capacity(c);
@@ -106,7 +106,7 @@ fn push_channel<B: Body>(out: &mut String, flow: &Flow<B>, c: usize) -> Result<(
 }
 
 fn push_channels<B: Body>(out: &mut String, flow: &Flow<B>) -> Result<(), AllocError>
-    ensures { OnOk result (string_bytes out.new ≡ string_bytes out.old ++ lines_upto (channel_line flow.now.network flow.now.state) (length flow.now.network.channels)) }
+    ensures { OnOk result (AppendsText out.old out.new (lines_of_channels flow.now.network flow.now.state)) }
 {
     for c in 0..flow.net().channels() {
         push_channel(out, flow, c)?;
@@ -115,7 +115,7 @@ fn push_channels<B: Body>(out: &mut String, flow: &Flow<B>) -> Result<(), AllocE
 }
 
 fn push_counts<B: Body>(out: &mut String, flow: &Flow<B>) -> Result<(), AllocError>
-    ensures { OnOk result (string_bytes out.new ≡ string_bytes out.old ++ count_line flow.now) }
+    ensures { OnOk result (AppendsText out.old out.new (count_line flow.now)) }
 {
     let (entries, growths) = (flow.entries(), flow.growths());
     write!(out, "entries {entries} growths {growths}\n")

@@ -1,9 +1,6 @@
 //! A flow with its inputs and outputs.
-ghost use Rattle.std.specs.Prelude.{◌≡◌, option_map, slice_get};
-ghost use Rattle.kpn_flow.specs.Flows.{fill};
-ghost use Rattle.kpn_flow.specs.Stands.{IsStand};
-ghost use Rattle.kpn_flow.specs.Waits.{starves, holds_up};
-ghost use Rattle.hox_handle.specs.Sessions.{flow_kinds, may_feed, DrainsAt, EndsAt, FeedsAt, GoesOn};
+ghost use Rattle.std.specs.Prelude.{◌≡◌, slice_get};
+ghost use Rattle.hox_handle.specs.Sessions.{DrainsAt, EndsAt, FeedsAt, GoesOn, StandsAs, may_feed_at, starves_at, holds_up_at, input_fill, output_fill};
 
 use crate::answers::ReturnCode;
 use crate::words::{Transferred, drain_words, feed_words};
@@ -94,7 +91,7 @@ fn nothing_for(answer: ReturnCode) -> Transferred
 impl Session {
     /// Returns whether input `place` has room and has not ended; `None` if there is none.
     pub fn may_feed(&self, place: usize) -> Option<bool>
-        ensures { result ≡ option_map (may_feed self.now) (slice_get self.now.inputs place) }
+        ensures { result ≡ may_feed_at self.now place }
     {
         let channel = self.inputs.get(place).copied()?;
         Some(self.flow.is_input(channel) && self.flow.has_room(channel))
@@ -103,7 +100,7 @@ impl Session {
     /// Returns whether a process waits for a token of input `place`, which is then empty; `None` if there is
     /// none.
     pub fn waits_for_input(&self, place: usize) -> Option<bool>
-        ensures { result ≡ option_map (starves self.now.network self.now.standings) (slice_get self.now.inputs place) }
+        ensures { result ≡ starves_at self.now place }
     {
         let channel = self.inputs.get(place).copied()?;
         Some(self.flow.is_starved(channel))
@@ -112,7 +109,7 @@ impl Session {
     /// Returns whether a process waits for room in output `place`, which is then full; `None` if there is
     /// none.
     pub fn waits_for_output(&self, place: usize) -> Option<bool>
-        ensures { result ≡ option_map (holds_up self.now.network self.now.standings) (slice_get self.now.outputs place) }
+        ensures { result ≡ holds_up_at self.now place }
     {
         let channel = self.outputs.get(place).copied()?;
         Some(self.flow.is_held_up(channel))
@@ -120,7 +117,7 @@ impl Session {
 
     /// Returns the number of tokens and the current capacity of input `place`; `None` if there is none.
     pub fn input_fill(&self, place: usize) -> Option<(usize, usize)>
-        ensures { result ≡ option_map (fill self.now) (slice_get self.now.inputs place) }
+        ensures { result ≡ input_fill self.now place }
     {
         let channel = self.inputs.get(place).copied()?;
         Some(self.flow.tokens_and_capacity(channel))
@@ -128,7 +125,7 @@ impl Session {
 
     /// Returns the number of tokens and the current capacity of output `place`; `None` if there is none.
     pub fn output_fill(&self, place: usize) -> Option<(usize, usize)>
-        ensures { result ≡ option_map (fill self.now) (slice_get self.now.outputs place) }
+        ensures { result ≡ output_fill self.now place }
     {
         let channel = self.outputs.get(place).copied()?;
         Some(self.flow.tokens_and_capacity(channel))
@@ -144,7 +141,7 @@ impl Session {
 
     /// Returns how the flow stands, without running it: `Cut` if it may continue, else why it can't.
     pub fn stand(&self) -> Pause
-        ensures { IsStand flow_kinds self.now.network self.now.unended self.now.outputs self.now.state self.now.standings result }
+        ensures { StandsAs self.now result }
     {
         self.flow.stand()
     }

@@ -65,20 +65,38 @@ put_if is_told key d ms = if is_told then put key d ms else ms
 abbrev pub waits : List (List ℕ) → Bool
 waits words = bytes_eq (word_at words 0) (codes "reads") || bytes_eq (word_at words 0) (codes "writes")
 
+-- the channel for which a process waits, and the number of its steps
+abbrev pub put_channel : List (List ℕ) → Members → Members
+put_channel words ms = put_if (waits words) (codes "channel") (string (word_at words 1)) ms
+
+abbrev pub put_steps : List (List ℕ) → Members → Members
+put_steps words ms =
+    put_if (nat_lt 2 (length words)) (codes "steps") (token_data (word_at words (length words - 1))) ms
+
 -- of a process: its state, the channel for which it waits, and after `steps` their number, if it is there
 abbrev pub state_data : List (List ℕ) → Data
 state_data words =
     let state = put (codes "state") (string (word_at words 0)) no_members in
-    object (put_if (nat_lt 2 (length words)) (codes "steps") (token_data (word_at words (length words - 1))) (put_if (waits words) (codes "channel") (string (word_at words 1)) state))
+    object (put_steps words (put_channel words state))
+
+-- `put N`, and `left N` before it
+abbrev pub put_members : List (List ℕ) → Members
+put_members words = member (codes "put") (token_data (word_at words 1)) no_members
+
+abbrev pub left_members : List (List ℕ) → Members
+left_members words = member (codes "left") (token_data (word_at words 3)) (put_members words)
 
 -- of a channel: `put N left N capacity N`
 abbrev pub sizes_data : List (List ℕ) → Data
-sizes_data words =
-    object (member (codes "capacity") (token_data (word_at words 5)) (member (codes "left") (token_data (word_at words 3)) (member (codes "put") (token_data (word_at words 1)) no_members)))
+sizes_data words = object (member (codes "capacity") (token_data (word_at words 5)) (left_members words))
+
+-- the channel of a growth
+abbrev pub channel_members : List (List ℕ) → Members
+channel_members words = member (codes "channel") (string (word_at words 0)) no_members
 
 -- a growth: `CHANNEL CAPACITY`
 abbrev pub growth_data : List (List ℕ) → Data
-growth_data words = object (member (codes "capacity") (token_data (word_at words 1)) (member (codes "channel") (string (word_at words 0)) no_members))
+growth_data words = object (member (codes "capacity") (token_data (word_at words 1)) (channel_members words))
 
 abbrev pub growths_data : List (List ℕ) → Data
 growths_data lines = array (items_of (map (λ line. growth_data (words_after line)) lines))
@@ -110,11 +128,15 @@ module _ (report : List (List ℕ)) where
       let ended = put (codes "verdict") (string verdict_text) (put (codes "end") (string (text_of (codes "end"))) ms) in
       put_if is_cycle (codes "cycle") (names_data (words_after (text_of (codes "verdict")))) ended
 
+  -- the states of the processes
+  abbrev pub states_data : Data
+  states_data = object (named state_data (lines_of (codes "process") report))
+
   -- processes and channels, if the report has them
   abbrev pub with_places : Members → Members
   with_places ms =
       put_if (has (codes "channel")) (codes "channels") (object (named sizes_data (lines_of (codes "channel") report)))
-      (put_if (has (codes "process")) (codes "processes") (object (named state_data (lines_of (codes "process") report))) ms)
+      (put_if (has (codes "process")) (codes "processes") states_data ms)
 
   -- what a run that ended did
   abbrev pub with_history : Members → Members
@@ -123,11 +145,15 @@ module _ (report : List (List ℕ)) where
       (put_if (has (codes "entries")) (codes "growths") (growths_data (lines_of (codes "grew") report))
       (put_if (has (codes "entries")) (codes "entries") (token_data (text_of (codes "entries"))) ms))
 
+  -- the names of those who could go on
+  abbrev pub active_words : List (List ℕ)
+  active_words = words_after (slice_index_or (lines_of (codes "active") report) 0 [])
+
   -- who could go on, and the streams of a run that was cut
   abbrev pub with_rest : Members → Members
   with_rest ms =
       put_if (has (codes "prefix")) (codes "prefixes") (object (named tokens_data (lines_of (codes "prefix") report)))
-      (put_if (has (codes "active")) (codes "active") (names_data (words_after (slice_index_or (lines_of (codes "active") report) 0 []))) ms)
+      (put_if (has (codes "active")) (codes "active") (names_data active_words) ms)
 
   abbrev pub members : Members
   members = with_rest (with_history (with_places (with_verdict no_members)))

@@ -2,7 +2,8 @@
 ghost use Rattle.std.specs.Prelude.{◌≡◌, IfOk, OnOk, map};
 ghost use Rattle.serde_json.specs.Data.{object};
 ghost use Rattle.serde_json.specs.View.{members_view, view};
-ghost use Rattle.hox_json.specs.Json.{named, put_named};
+ghost use Rattle.hox_json.specs.Entries.{named_put};
+ghost use Rattle.hox_json.specs.Json.{named};
 ghost use Rattle.hox_json.specs.Told.{data_of};
 
 use crate::lines::words_after;
@@ -36,7 +37,7 @@ fn put_named(
     told: Told,
     words: &[&str],
 ) -> Result<(), AllocError>
-    ensures { OnOk result (members_view values.new.entries ≡ put_named (data_of told) (members_view values.old.entries) (map (λ s. s.now) words.now)) }
+    ensures { OnOk result (members_view values.new.entries ≡ named_put told words.now values.old.entries) }
 {
     match words {
         [] => Ok(()),

@@ -1,7 +1,8 @@
 //! The JSON of a report.
-ghost use Rattle.std.specs.Prelude.{◌≡◌, IfOk, OnOk, map, string_bytes};
+ghost use Rattle.std.specs.Prelude.{◌≡◌, IfOk, OnOk, string_bytes};
 ghost use Rattle.serde_json.specs.View.{members_view, view};
-ghost use Rattle.hox_json.specs.Json.{json_text, report_data, with_history, with_places, with_rest, with_verdict};
+ghost use Rattle.hox_json.specs.Entries.{history_put, places_put, rest_put, verdict_put};
+ghost use Rattle.hox_json.specs.Json.{json_text, report_data};
 
 use crate::lines::{first_line, first_text, lines_in, lines_of, word_of, words_after};
 use crate::named::{Told, named};
@@ -38,7 +39,7 @@ fn put_verdict(
     alloc: Global,
     lines: &[&str],
 ) -> Result<(), AllocError>
-    ensures { OnOk result (members_view members.new.entries ≡ with_verdict (map (λ s. s.now) lines.now) (members_view members.old.entries)) }
+    ensures { OnOk result (members_view members.new.entries ≡ verdict_put lines.now members.old.entries) }
 {
     let ends = lines_of(alloc, lines, "end")?;
     let verdicts = lines_of(alloc, lines, "verdict")?;
@@ -59,7 +60,7 @@ fn put_places(
     alloc: Global,
     lines: &[&str],
 ) -> Result<(), AllocError>
-    ensures { OnOk result (members_view members.new.entries ≡ with_places (map (λ s. s.now) lines.now) (members_view members.old.entries)) }
+    ensures { OnOk result (members_view members.new.entries ≡ places_put lines.now members.old.entries) }
 {
     let processes = lines_of(alloc, lines, "process")?;
     let channels = lines_of(alloc, lines, "channel")?;
@@ -75,7 +76,7 @@ fn put_history(
     alloc: Global,
     lines: &[&str],
 ) -> Result<(), AllocError>
-    ensures { OnOk result (members_view members.new.entries ≡ with_history (map (λ s. s.now) lines.now) (members_view members.old.entries)) }
+    ensures { OnOk result (members_view members.new.entries ≡ history_put lines.now members.old.entries) }
 {
     let entries = lines_of(alloc, lines, "entries")?;
     let has_ended = !entries.is_empty();
@@ -95,7 +96,7 @@ fn put_rest(
     alloc: Global,
     lines: &[&str],
 ) -> Result<(), AllocError>
-    ensures { OnOk result (members_view members.new.entries ≡ with_rest (map (λ s. s.now) lines.now) (members_view members.old.entries)) }
+    ensures { OnOk result (members_view members.new.entries ≡ rest_put lines.now members.old.entries) }
 {
     let active = lines_of(alloc, lines, "active")?;
     let words = words_after(alloc, first_line(active.as_slice()))?;

@@ -1,6 +1,7 @@
 //! The values of parts of a report.
 ghost use Rattle.std.specs.Prelude.{◌≡◌, ◌-◌, IfOk, OnOk, length, map};
 ghost use Rattle.serde_json.specs.View.{members_view, view};
+ghost use Rattle.hox_json.specs.Entries.{value_put_if};
 ghost use Rattle.hox_json.specs.Json.{growth_data, growths_data, is_plain, names_data, put_if, sizes_data, state_data, token_data, tokens_data, waits, word_at};
 
 use crate::lines::words_after;
@@ -121,7 +122,7 @@ pub(crate) fn put_if(
     key: &str,
     value: Value,
 ) -> Result<(), AllocError>
-    ensures { OnOk result (members_view members.new.entries ≡ put_if is_told key.now (view value) (members_view members.old.entries)) }
+    ensures { OnOk result (members_view members.new.entries ≡ value_put_if is_told key.now value members.old.entries) }
 {
     if is_told {
         put(members, alloc, key, value)

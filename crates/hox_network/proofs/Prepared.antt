@@ -1,20 +1,19 @@
 -- A network that is prepared of a valid one is valid.
-use Rattle.std.proofs.Common.{◌≡◌, ◌<◌, ◌≤◌, ℕ, true, false, inl, inr, List, length, min, nat_le, Option, Some, None, IfSome, bytes_eq, sym, refl, subst, arith}
-use Rattle.std.proofs.lemmas.Bool.{cases_Bool, le-leb, leb-false}
+use Rattle.std.proofs.Common.{◌<◌, ◌≤◌, ℕ, inl, inr, List, length, min, nat_le, Option, Some, None, bytes_eq, sym, subst, arith}
+use Rattle.std.proofs.lemmas.Bool.{cases_Bool, leb-false}
 use Rattle.std.proofs.lemmas.List.Elements.{All-weaker}
 use Rattle.kpn_model.specs.declared.kinds.Card.{Card}
 use Rattle.kpn_model.specs.declared.kinds.Signature.{Signature}
 use Rattle.kpn_model.specs.declared.parts.Channel.{Channel}
 use Rattle.kpn_model.specs.declared.limits.TheConstants.{CEILING, GREATEST_BUDGET, GREATEST_HIGH_BUDGET}
-use Rattle.kpn_model.specs.Network.{Network, channel_of}
+use Rattle.kpn_model.specs.Network.{Network}
 use Rattle.kpn_model.specs.Valid.{HasEnds, IsValid}
 use Rattle.kpn_network.proofs.PortsWithin.{found_within}
 use Rattle.hox_network.specs.declared.request.Request.{Request}
 use Rattle.hox_network.specs.declared.request.TokenFile.{TokenFile}
-use Rattle.hox_network.specs.Presets.{PresetAll, Presets, greatest_budget, with_budget, none, one}
+use Rattle.hox_network.specs.Presets.{PresetAll, greatest_budget, with_budget, none, one}
 use Rattle.hox_network.specs.Preparing.{MayHaveBudget, Prepares}
 use Rattle.hox_network.proofs.Held.{held_valid}
-use Rattle.std.specs.List.{All}
 
 small : (ceiling n : ℕ) → n ≤ greatest_budget ceiling → (n ≤ GREATEST_HIGH_BUDGET) × (ceiling ≤ CEILING → n ≤ GREATEST_BUDGET)
 small ceiling n h = elim (cases_Bool (nat_le ceiling CEILING)) [

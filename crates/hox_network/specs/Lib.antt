@@ -6,5 +6,6 @@ pub mod Delays
 pub mod Formulas
 pub mod Meant
 pub mod Presets
+pub mod Reading
 pub mod Statuses
 pub mod Preparing

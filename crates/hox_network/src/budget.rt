@@ -1,9 +1,7 @@
 //! The default budget of a description.
-ghost use Rattle.std.specs.Prelude.{◌≡◌, ℕ, List, IsUtf8, IfOk, None};
-ghost use Rattle.toml.specs.Errors.{IsMemory};
-ghost use Rattle.toml.specs.Parse.{parse_document};
+ghost use Rattle.std.specs.Prelude.{◌≡◌, ℕ, List, IsUtf8, IfOk};
 ghost use Rattle.toml.specs.View.{table_view};
-ghost use Rattle.hox_network.specs.Budgets.{has_budget, says_budget, with_greatest_budget};
+ghost use Rattle.hox_network.specs.Budgets.{IsErrorOf, has_budget, says_budget, with_greatest_budget};
 
 use kpn_model::version::greatest_budget_in;
 use kpn_net::Sketch;
@@ -33,7 +31,7 @@ pub(crate) fn with_greatest_budget(
 
 /// A text that is no TOML states no budget. Errors: out of memory.
 fn none_of(error: &Error) -> Result<bool, AllocError>
-    ensures { (text : List ℕ) → ((IsMemory error.now → ⊥) → IsUtf8 text → parse_document text ≡ None) → IsUtf8 text → IfOk result (λ says. says ≡ says_budget text) }
+    ensures { (text : List ℕ) → IsErrorOf error.now text → IsUtf8 text → IfOk result (λ says. says ≡ says_budget text) }
 {
     if error.is_memory() {
         Err(AllocError)

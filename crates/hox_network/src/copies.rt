@@ -3,7 +3,7 @@ ghost use Rattle.std.specs.Prelude.{◌≡◌, ◌++◌, [], IfOk, OnOk, get_or,
 ghost use Rattle.std.specs.List.{list_any};
 ghost use Rattle.std.specs.Option.{option_to_list};
 ghost use Rattle.std.specs.Str.{bytes_eq};
-ghost use Rattle.hox_network.specs.Copies.{branches, copied, copy_at, copy_kind, each, free_names, is_fed, is_free, is_input, last_position, leaves_input, leaves, link_at, moved_at, numbered, shares, source, with_copies};
+ghost use Rattle.hox_network.specs.Copies.{branches, copied, copy_at, copy_kind, free_names, is_fed, is_free, is_input, last_position, leaves_input, leaves, link_at, moved_at, numbered, shares, source, with_copies, HoldsItems, output_pair, all_copies, all_links, all_moved};
 
 use kpn_model::limits::{MOST_CHANNELS, MOST_PROCESSES};
 use kpn_model::{Kinds, Listed, Sort, Text};
@@ -198,7 +198,7 @@ fn source<'a, K: Kinds>(
     earlier: &[ChannelSketch],
     channel: &'a ChannelSketch,
 ) -> Output<'a>
-    ensures { (result.process.now, result.out) ≡ source K.named K.signature sketch.now names.now earlier.now channel.now }
+    ensures { output_pair result ≡ source K.named K.signature sketch.now names.now earlier.now channel.now }
 {
     match nearest::<K>(sketch, earlier, channel) {
         Some(k) => Output {
@@ -229,7 +229,7 @@ fn copy_at<K: Kinds>(
     earlier: &[ChannelSketch],
     channels: &[ChannelSketch],
 ) -> Result<Option<ProcessSketch>, AllocError>
-    ensures { IfOk result (λ copy. option_to_list copy ≡ copy_at K.named K.signature sketch.now names.now earlier.now channels.now) }
+    ensures { IfOk result (HoldsItems (copy_at K.named K.signature sketch.now names.now earlier.now channels.now)) }
 {
     let Some((channel, later)) = channels.split_first() else {
         return Ok(None);
@@ -253,7 +253,7 @@ fn link_at<K: Kinds>(
     earlier: &[ChannelSketch],
     channels: &[ChannelSketch],
 ) -> Result<Option<ChannelSketch>, AllocError>
-    ensures { IfOk result (λ link. option_to_list link ≡ link_at K.named K.signature sketch.now names.now earlier.now channels.now) }
+    ensures { IfOk result (HoldsItems (link_at K.named K.signature sketch.now names.now earlier.now channels.now)) }
 {
     let Some((channel, later)) = channels.split_first() else {
         return Ok(None);
@@ -285,7 +285,7 @@ fn leaves<'a, K: Kinds>(
     channel: &'a ChannelSketch,
     later: &[ChannelSketch],
 ) -> Output<'a>
-    ensures { (result.process.now, result.out) ≡ leaves K.named K.signature sketch.now names.now earlier.now channel.now later.now }
+    ensures { output_pair result ≡ leaves K.named K.signature sketch.now names.now earlier.now channel.now later.now }
 {
     if branches::<K>(sketch, channel, later) {
         Output {
@@ -305,7 +305,7 @@ fn moved_at<K: Kinds>(
     earlier: &[ChannelSketch],
     channels: &[ChannelSketch],
 ) -> Result<Option<ChannelSketch>, AllocError>
-    ensures { IfOk result (λ moved. option_to_list moved ≡ moved_at K.named K.signature sketch.now names.now earlier.now channels.now) }
+    ensures { IfOk result (HoldsItems (moved_at K.named K.signature sketch.now names.now earlier.now channels.now)) }
 {
     let Some((channel, later)) = channels.split_first() else {
         return Ok(None);
@@ -340,7 +340,7 @@ fn copies<K: Kinds>(
     sketch: &Sketch,
     names: &[Text],
 ) -> Result<Vec<ProcessSketch>, AllocError>
-    ensures { IfOk result (λ v. v.items ≡ each (copy_at K.named K.signature sketch.now names.now) sketch.now.channels) }
+    ensures { IfOk result (λ v. v.items ≡ all_copies K.named K.signature sketch.now names.now) }
 {
     let channels = sketch.channels.as_slice();
     let mut all = Vec::new(alloc);
@@ -356,7 +356,7 @@ fn links<K: Kinds>(
     sketch: &Sketch,
     names: &[Text],
 ) -> Result<Vec<ChannelSketch>, AllocError>
-    ensures { IfOk result (λ v. v.items ≡ each (link_at K.named K.signature sketch.now names.now) sketch.now.channels) }
+    ensures { IfOk result (λ v. v.items ≡ all_links K.named K.signature sketch.now names.now) }
 {
     let channels = sketch.channels.as_slice();
     let mut all = Vec::new(alloc);
@@ -372,7 +372,7 @@ fn moved<K: Kinds>(
     sketch: &Sketch,
     names: &[Text],
 ) -> Result<Vec<ChannelSketch>, AllocError>
-    ensures { IfOk result (λ v. v.items ≡ each (moved_at K.named K.signature sketch.now names.now) sketch.now.channels) }
+    ensures { IfOk result (λ v. v.items ≡ all_moved K.named K.signature sketch.now names.now) }
 {
     let channels = sketch.channels.as_slice();
     let mut all = Vec::new(alloc);

@@ -1,8 +1,8 @@
 //! Reads descriptions that may omit sorts and the budget, and may have negative arguments and start tokens.
 ghost use Rattle.std.specs.Prelude.{◌≡◌, IfOk, IfSome, MatchResult, map};
 ghost use Rattle.kpn_sketch.specs.Description.{IsDelayedFault};
-ghost use Rattle.kpn_front.specs.Loading.{LoadsFrom, without_text};
-ghost use Rattle.hox_network.specs.Meant.{IsSketchOf, LoadsMeant, completed};
+ghost use Rattle.kpn_front.specs.Loading.{without_text};
+ghost use Rattle.hox_network.specs.Meant.{IsSketchOf, LoadsSource, completed};
 ghost use Rattle.hox_network.specs.Ports.{by_ports, channel_by_ports};
 
 use crate::budget::with_greatest_budget;
@@ -26,7 +26,7 @@ use std::alloc::{AllocError, Global};
 ///
 /// Errors: those of `kpn_front::load_or_refuse`, with the text.
 pub fn load_by_ports<K: Kinds, S: Source>(alloc: Global, source: &mut S) -> Result<Net<K>, Refused>
-    ensures { LoadsFrom (LoadsMeant K.named K.signature) S.is_steady S.has_failed S.remaining source.old source.new (without_text result) }
+    ensures { LoadsSource K.Kinds S.Source source.old source.new (without_text result) }
 {
     let text = match read_text(alloc, source) {
         Ok(text) => text,

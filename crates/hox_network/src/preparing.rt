@@ -1,7 +1,7 @@
 //! Prepares the network of a description for a request.
 ghost use Rattle.std.specs.Prelude.{◌≡◌, OnOk, IfErr};
 ghost use Rattle.kpn_network.specs.Parts.{network_of};
-ghost use Rattle.hox_network.specs.Preparing.{GivesNet, IsFault, Prepares, ServesFrom};
+ghost use Rattle.hox_network.specs.Preparing.{GivesNet, IsFault, Prepares, ServesSource};
 
 use crate::described::load_by_ports;
 use crate::names::channel_names;
@@ -22,7 +22,7 @@ pub fn prepare<K: Kinds, I: Source>(
     request: &Request,
     source: &mut I,
 ) -> Result<Net<K>, Fault>
-    ensures { ServesFrom K.named K.signature (GivesNet request.now) (I.remaining source.old) (I.remaining source.new) (I.has_failed source.old) (I.has_failed source.new) result }
+    ensures { ServesSource K.named K.signature (GivesNet request.now) I.Source source.old source.new result }
 {
     let loaded: Result<Net<K>, _> = load_by_ports(alloc, source);
     match loaded {

@@ -1,9 +1,8 @@
 //! Sets start tokens from files.
-ghost use Rattle.std.specs.Prelude.{◌≡◌, ◌<◌, ◌≤◌, ◌⊎◌, ℕ, List, false, OnOk, IfOk, IfErr, IfSome, IsTrue, length};
-ghost use Rattle.kpn_model.specs.declared.token.Token.{Token as TokenV};
+ghost use Rattle.std.specs.Prelude.{◌≡◌, ◌<◌, false, OnOk, IfErr, IfSome, IsTrue, length};
 ghost use Rattle.kpn_model.specs.Network.{channel_of, number_of_channel};
 ghost use Rattle.kpn_network.specs.Parts.{network_of};
-ghost use Rattle.hox_network.specs.Presets.{IsFileFault, PresetAll, Presets, Stops, greatest_budget, with_tokens};
+ghost use Rattle.hox_network.specs.Presets.{IsFileFault, PresetAll, PresetsOne, RefusesBudget, SetsBudget, Stops, greatest_budget, with_tokens};
 
 use crate::request::TokenFile;
 use kpn_model::limits::{CEILING, GREATEST_BUDGET, GREATEST_HIGH_BUDGET};
@@ -53,7 +52,7 @@ pub(crate) fn preset(
 }
 
 fn preset_one(alloc: Global, parts: &mut Parts, file: &TokenFile) -> Result<(), FileFault>
-    ensures ok { OnOk result ((c : ℕ) × (tokens : List TokenV) × Presets (network_of parts.old) file.now c tokens × (network_of parts.new ≡ with_tokens (network_of parts.old) c tokens)) }
+    ensures ok { OnOk result (PresetsOne (network_of parts.old) file.now (network_of parts.new)) }
     ensures fault { IfErr result (IsFileFault (network_of parts.old) file.now) }
 {
     let Some(channel) = find_channel(parts, file.channel.as_str()) else {
@@ -103,8 +102,8 @@ fn hold(parts: &mut Parts, channel: usize, tokens: Vec<Token>)
 /// Sets the budget, in entries, and returns true if it is from 1 to [`greatest_budget`]; else returns false
 /// and changes nothing.
 pub(crate) fn set_budget(parts: &mut Parts, budget: u64) -> bool
-    ensures yes { IsTrue result → (1 ≤ budget) × (budget ≤ greatest_budget parts.old.ceiling) × (network_of parts.new ≡ record (network_of parts.old) { budget = budget }) }
-    ensures no { result ≡ false → (network_of parts.new ≡ network_of parts.old) × ((budget ≡ 0) ⊎ (greatest_budget parts.old.ceiling < budget)) }
+    ensures yes { IsTrue result → SetsBudget parts.old.ceiling budget (network_of parts.old) (network_of parts.new) }
+    ensures no { result ≡ false → RefusesBudget parts.old.ceiling budget (network_of parts.old) (network_of parts.new) }
 {
     if budget < 1 || budget > greatest_budget(parts.ceiling) {
         return false;

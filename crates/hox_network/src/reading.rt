@@ -1,6 +1,7 @@
 //! Reads a file of tokens to its end.
-ghost use Rattle.std.specs.Prelude.{◌≡◌, ◌≢◌, ◌<◌, ◌≤◌, ◌+◌, false, true, IsTrue, IfOk, IfSome, length};
+ghost use Rattle.std.specs.Prelude.{◌≡◌, ◌≢◌, ◌<◌, ◌≤◌, ◌+◌, false, true, IsTrue, IfOk};
 ghost use Rattle.kpn_front.specs.Loading.{ConsumesAtMost};
+ghost use Rattle.hox_network.specs.Reading.{IsWholeFile, IsTooLong};
 
 use kpn_front::Source;
 use std::alloc::Global;
@@ -23,8 +24,8 @@ pub enum ReadFault {
 ///
 /// Errors: see [`ReadFault`]. The bytes read so far are consumed.
 pub fn read_whole<S: Source>(alloc: Global, source: &mut S) -> Result<Vec<u8>, ReadFault>
-    ensures ok { IfOk result (λ t. (length t.items ≤ LONGEST_FILE) × IfSome (S.remaining source.old) (λ text. t.items ≡ text)) }
-    ensures long { result ≡ Err ReadFault.TooLong → IfSome (S.remaining source.old) (λ text. LONGEST_FILE < length text) }
+    ensures ok { IfOk result (λ t. IsWholeFile (S.remaining source.old) t.items) }
+    ensures long { result ≡ Err ReadFault.TooLong → IsTooLong (S.remaining source.old) }
     ensures unfailed { result ≢ Err ReadFault.Failed → S.has_failed source.new ≡ S.has_failed source.old }
     ensures failed { result ≡ Err ReadFault.Failed → S.has_failed source.new ≡ true }
     ensures taken { ConsumesAtMost (LONGEST_FILE + 1) (S.remaining source.old) (S.remaining source.new) }

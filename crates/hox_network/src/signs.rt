@@ -1,6 +1,6 @@
 //! Negative arguments and start tokens.
-ghost use Rattle.std.specs.Prelude.{◌≡◌, [], IfOk, map};
-ghost use Rattle.hox_network.specs.Signs.{carried, count_below, is_below, signed_args, signed_channel, signed_kind, signed_process, signed_token, with_signs};
+ghost use Rattle.std.specs.Prelude.{◌≡◌, IfOk, map};
+ghost use Rattle.hox_network.specs.Signs.{carried, count_below, is_below, signed_args, signed_channel, signed_form, signed_kind, signed_process, signed_token, with_signs};
 
 use kpn_model::{Kinds, Listed, Text};
 use kpn_net::faults::has_wrong_args;
@@ -63,7 +63,7 @@ fn signed_process<K: Kinds>(
 }
 
 fn signed_form(alloc: Global, process: &ProcessSketch) -> Result<ProcessSketch, AllocError>
-    ensures { IfOk result (λ r. r ≡ record { name = []; kind = signed_kind process.now.kind; args = signed_args process.now.args }) }
+    ensures { IfOk result (λ r. r ≡ signed_form process.now) }
 {
     Ok(ProcessSketch {
         name: Text::new(String::new(alloc)),

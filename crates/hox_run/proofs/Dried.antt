@@ -1,22 +1,16 @@
 -- Which processes were dry when a run ended, and which streams are whole.
-use Rattle.std.proofs.Common.{◌≡◌, ◌≢◌, ◌↔◌, ◌&&◌, ◌||◌, ◌==◌, ℕ, Bool, true, false, if◌then◌else◌, List, Some, length, not, refl, sym, ap, ◌∙◌, subst}
-use Rattle.std.specs.List.{All, list_all}
+use Rattle.std.proofs.Common.{◌≡◌, ◌≢◌, ◌↔◌, ◌&&◌, ◌||◌, ◌==◌, ℕ, Bool, true, false, if◌then◌else◌, List, Some, length, not, refl, sym, ◌∙◌, subst}
 use Rattle.std.proofs.lemmas.List.Sums.{AllPass-from_list_all}
-use Rattle.kpn_model.specs.declared.history.Entry.{Entry}
 use Rattle.kpn_model.specs.declared.history.End.{End}
 use Rattle.kpn_model.specs.declared.history.End.TheVariants.{Terminated, Deadlock, Ceiling, Budget, Memory}
 use Rattle.kpn_model.specs.declared.history.Place.{Place}
 use Rattle.kpn_model.specs.declared.verdict.Verdict.{Verdict}
 use Rattle.kpn_model.specs.declared.verdict.Verdict.TheVariants.{RanDry, Cut, Full}
 use Rattle.kpn_model.specs.Network.{Family, Network, channel_of, Admits}
-use Rattle.kpn_model.specs.Semantics.{State, IsRun}
-use Rattle.kpn_model.specs.Endings.{IsOver}
-use Rattle.kpn_model.specs.texts.Reports.{has_report}
-use Rattle.kpn_state.specs.declared.standing.Standing.{Standing}
-use Rattle.kpn_state.specs.Standings.{standing, is_busy}
+use Rattle.kpn_model.specs.Semantics.{State}
 use Rattle.kpn_state.proofs.Placed.{idle_at}
 use Rattle.kpn_machine.specs.MachineView.{MachineView, IsFaithful}
-use Rattle.kpn_dry.specs.Dry.{CompleteIsWhole, IsDry, IsWhole}
+use Rattle.kpn_dry.specs.Dry.{CompleteIsWhole, IsDry}
 use Rattle.kpn_dry.specs.Told.{TellWaits, is_told_dry}
 use Rattle.kpn_dry.proofs.Walk.{told_exactly}
 use Rattle.kpn_dry.proofs.Told.{dry_if_told, told_if_dry}

@@ -18,6 +18,7 @@ use Rattle.kpn_report.specs.Text.{place_text}
 use Rattle.kpn_tokens.specs.declared.layouts.Decimals.{Decimals}
 use Rattle.kpn_tokens.specs.Numbers.{token_text}
 use Rattle.hox_run.specs.declared.shown.ChannelAs.{ChannelAs}
+use Rattle.hox_run.specs.declared.shown.StreamLine.{StreamLine}
 
 -- where a cut left each process: no place if it was ready, as each enabled one is; else that it has stopped,
 -- or the place where it waits
@@ -47,8 +48,19 @@ module _ (net : Network) where
   abbrev pub tokens_line : List ℕ → List Token → ChannelAs Decimals → List ℕ
   tokens_line word tokens c = word ++ channel_name net c.channel ++ flat_map (token_part c.written) tokens ++ codes "\n"
 
+  abbrev pub text_of_line : StreamLine → List ℕ
+  text_of_line line = tokens_line line.word.now line.tokens.now line.channel
+
+  -- the tokens of channel c's stream, none if there is no such channel
+  abbrev pub tokens_shown : List Entry → ℕ → List Token
+  tokens_shown E c = slice_index_or (each_channel net (λ b. stream net E b)) c []
+
+  -- the line with a channel's stream
+  abbrev pub stream_shown : List ℕ → List Entry → ChannelAs Decimals → List ℕ
+  stream_shown word E c = tokens_line word (tokens_shown E c.channel) c
+
   abbrev pub streams_text : List ℕ → List Entry → List (ChannelAs Decimals) → List ℕ
-  streams_text word E channels = flat_map (λ c. tokens_line word (slice_index_or (each_channel net (λ b. stream net E b)) c.channel []) c) channels
+  streams_text word E channels = flat_map (stream_shown word E) channels
 
   -- the streams to show, if the run has a report
   abbrev pub before_verdict : End → List Entry → List (ChannelAs Decimals) → List ℕ
@@ -56,9 +68,13 @@ module _ (net : Network) where
   before_verdict Memory E show = []
   before_verdict _ E show = streams_text (codes "stream ") E show
 
+  -- where a cut left each process
+  abbrev pub left_lines : (ℕ → Option Place) → List ℕ
+  left_lines left = lines_upto (left_line left) (length net.processes)
+
   -- where a cut left the processes, and the streams to show so far
   abbrev pub cut_text : List Entry → (ℕ → Option Place) → List (ChannelAs Decimals) → List ℕ
-  cut_text E left show = lines_upto (left_line left) (length net.processes) ++ streams_text (codes "prefix ") E show
+  cut_text E left show = left_lines left ++ streams_text (codes "prefix ") E show
 
   -- the text after the verdict
   abbrev pub after_verdict : End → List Entry → (ℕ → Option Place) → List (ChannelAs Decimals) → List ℕ

@@ -17,9 +17,14 @@ use Rattle.kpn_tokens.specs.declared.layouts.Decimals.{Decimals}
 use Rattle.kpn_tokens.specs.declared.layouts.Layout.{Layout}
 use Rattle.hox_run.specs.declared.shown.ChannelAs.{ChannelAs}
 
+-- these processes are those that the standings tell dry
+abbrev pub AreToldDry : Network → List Standing → (ℕ → Bool) → Type 0
+AreToldDry net standings dry = (p : ℕ) → (dry p ≡ true) ↔ IsToldDry net standings p
+
 -- which processes are dry in M, the state in which a run ended so; if it was cut, as the standings tell
 abbrev pub AreDry : Family → Network → End → State → (ℕ → Bool) → Type 0
-AreDry kinds net Budget M dry = (standings : List Standing) × TellWaits kinds net M standings × ((p : ℕ) → (dry p ≡ true) ↔ IsToldDry net standings p)
+AreDry kinds net Budget M dry =
+    (standings : List Standing) × TellWaits kinds net M standings × AreToldDry net standings dry
 AreDry kinds net cause M dry = (p : ℕ) → (dry p ≡ true) ↔ IsDry kinds net M p
 
 module _ (net : Network) (dry : ℕ → Bool) where

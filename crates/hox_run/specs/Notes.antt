@@ -43,14 +43,19 @@ module _ (net : Network) (E : List Entry) where
 
   -- how many start tokens a source had, and how many of these were not read
   abbrev pub source_of : ℕ → SourceNote
-  source_of c = record { channel = channel_name net c; tokens = length (channel_of net c).tokens; unread = length (channel_of net c).tokens - taken_count E c }
+  source_of c = record {
+    channel = channel_name net c;
+    tokens = length (channel_of net c).tokens;
+    unread = length (channel_of net c).tokens - taken_count E c;
+  }
 
   -- the sources among the first n channels
   abbrev pub sources_upto : (ℕ → Option Place) → ℕ → List SourceNote
   sources_upto left zero = []
   sources_upto left (suc n) = sources_upto left n ++ (if is_source left n then source_of n ∷ [] else [])
 
--- what a run with this verdict left unused
-pub record AreNotes (net : Network) (verdict : Verdict) (E : List Entry) (left : ℕ → Option Place) (notes : Notes) : Type 0 where
-  pub sources : notes.sources.items ≡ sources_upto net E left (length net.channels)
-  pub budget : notes.budget ≡ spent net verdict
+module _ (net : Network) (verdict : Verdict) where
+  -- what a run with this verdict left unused
+  pub record AreNotes (E : List Entry) (left : ℕ → Option Place) (notes : Notes) : Type 0 where
+    pub sources : notes.sources.items ≡ sources_upto net E left (length net.channels)
+    pub budget : notes.budget ≡ spent net verdict

@@ -1,7 +1,8 @@
 //! Reports on a run that was cut: where it left each process, and the streams so far.
-ghost use Rattle.std.specs.Prelude.{◌≡◌, ◌++◌, OnOk, length, string_bytes};
-ghost use Rattle.kpn_model.specs.texts.Reports.{lines_upto};
-ghost use Rattle.hox_run.specs.Cuts.{after_verdict, left_at, left_line, left_text};
+ghost use Rattle.std.specs.Prelude.{◌≡◌, OnOk};
+ghost use Rattle.kpn_report.specs.Text.{AppendsText};
+ghost use Rattle.hox_run.specs.Cuts.{left_at, left_line, left_lines, left_text};
+ghost use Rattle.hox_run.specs.Ended.{after_by};
 
 use crate::ended::Ended;
 use crate::shown::{ChannelAs, push_streams};
@@ -23,7 +24,7 @@ pub(crate) fn push_after_verdict<K: Kinds, E: Entries>(
     run: &Ended<'_, K, E>,
     show: &[ChannelAs<Decimals>],
 ) -> Result<(), AllocError>
-    ensures { OnOk result (string_bytes out.new ≡ string_bytes out.old ++ after_verdict run.now.net.now run.now.end (E.entries run.now.history.now) (left_at run.now.standings.now run.now.places.now) show.now) }
+    ensures { OnOk result (AppendsText out.old out.new (after_by run.now E.Entries show.now)) }
 {
     match run.end {
         End::Budget => {
@@ -40,7 +41,7 @@ fn push_left<K: Kinds>(
     standings: &[Standing],
     places: &[Place],
 ) -> Result<(), AllocError>
-    ensures { OnOk result (string_bytes out.new ≡ string_bytes out.old ++ lines_upto (left_line net.now (left_at standings.now places.now)) (length net.now.processes)) }
+    ensures { OnOk result (AppendsText out.old out.new (left_lines net.now (left_at standings.now places.now))) }
 {
     for p in 0..net.processes() {
         push_left_line(out, net, left_at(standings, places, p), p)?;
@@ -64,7 +65,7 @@ fn push_left_line<K: Kinds>(
     left: Option<Place>,
     process: usize,
 ) -> Result<(), AllocError>
-    ensures { OnOk result (string_bytes out.new ≡ string_bytes out.old ++ left_line net.now (λ _. left) process) }
+    ensures { OnOk result (AppendsText out.old out.new (left_line net.now (λ _. left) process)) }
 {
     let name = process_name(net, process);
     write!(out, "process {name} ")?;
@@ -77,7 +78,7 @@ fn push_left_text<K: Kinds>(
     net: &Net<K>,
     left: Option<Place>,
 ) -> Result<(), AllocError>
-    ensures { OnOk result (string_bytes out.new ≡ string_bytes out.old ++ left_text net.now left) }
+    ensures { OnOk result (AppendsText out.old out.new (left_text net.now left)) }
 {
     match left {
         None => out.push_str("ready"),

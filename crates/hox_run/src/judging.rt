@@ -1,14 +1,10 @@
 //! The verdict on a run, and its report.
-ghost use Rattle.std.specs.Prelude.{◌≡◌, ◌++◌, true, None, IfOk, OnOk, string_bytes};
-ghost use Rattle.kpn_model.specs.Network.{Family};
-ghost use Rattle.kpn_model.specs.Semantics.{State};
-ghost use Rattle.kpn_model.specs.texts.Reports.{has_report};
+ghost use Rattle.std.specs.Prelude.{◌≡◌, IfOk, OnOk, string_bytes};
 ghost use Rattle.kpn_dry.specs.Told.{is_told_dry};
-ghost use Rattle.kpn_report.specs.Text.{report_text};
+ghost use Rattle.kpn_report.specs.Text.{AppendsText};
 ghost use Rattle.kpn_verdict.specs.VerdictText.{verdict_line};
-ghost use Rattle.hox_run.specs.Cuts.{after_verdict, before_verdict, left_at};
-ghost use Rattle.hox_run.specs.Judging.{IsJudged, active_part, are_complete, has_all};
-ghost use Rattle.hox_run.specs.Telling.{places_in};
+ghost use Rattle.hox_run.specs.Ended.{JudgesRun, ReportsRun, active_by, as_judged};
+ghost use Rattle.hox_run.specs.Judging.{are_complete, has_all};
 
 use crate::cut::push_after_verdict;
 use crate::ended::Ended;
@@ -35,8 +31,8 @@ pub(crate) fn judge<K: Kinds, E: Entries>(
     run: &Ended<'_, K, E>,
     wanted: &WantedStreams<'_>,
 ) -> Result<Judged, AllocError>
-    ensures verdict { IfOk result (λ judged. IsJudged run.now.net.now (is_told_dry run.now.net.now run.now.standings.now) wanted.now.show.now wanted.now.outputs.now run.now.places.now run.now.end judged.verdict) }
-    ensures report { IfOk result (λ judged. (kinds : Family) (M : State) → (has_report run.now.end ≡ true → run.now.places.now ≡ places_in kinds run.now.net.now M) → string_bytes judged.report ≡ report_text kinds run.now.net.now run.now.end (E.entries run.now.history.now) M None ++ before_verdict run.now.net.now run.now.end (E.entries run.now.history.now) wanted.now.show.now ++ verdict_line run.now.net.now run.now.places.now judged.verdict ++ active_part run.now.net.now (is_told_dry run.now.net.now run.now.standings.now) run.now.end judged.verdict ++ after_verdict run.now.net.now run.now.end (E.entries run.now.history.now) (left_at run.now.standings.now run.now.places.now) wanted.now.show.now) }
+    ensures verdict { IfOk result (λ judged. JudgesRun run.now wanted.now judged.verdict) }
+    ensures report { IfOk result (ReportsRun run.now E.Entries wanted.now.show.now) }
 {
     let verdict = verdict_on(run, wanted);
     let mut report = text_of_entries(alloc, run.net, run.history, run.places, run.end, None)?;
@@ -47,7 +43,7 @@ pub(crate) fn judge<K: Kinds, E: Entries>(
 /// Returns the verdict on a run. At the ceiling, or if it was cut, it ran dry if some channel is wanted, and all
 /// that are wanted have their whole streams.
 fn verdict_on<K: Kinds, E: Entries>(run: &Ended<'_, K, E>, wanted: &WantedStreams<'_>) -> Verdict
-    ensures { IsJudged run.now.net.now (is_told_dry run.now.net.now run.now.standings.now) wanted.now.show.now wanted.now.outputs.now run.now.places.now run.now.end result }
+    ensures { JudgesRun run.now wanted.now result }
 {
     let on_end = verdict_of(run.net, run.places, run.end);
     match run.end {
@@ -92,7 +88,7 @@ fn push_judged<K: Kinds, E: Entries>(
     show: &[ChannelAs<Decimals>],
     verdict: Verdict,
 ) -> Result<(), AllocError>
-    ensures { OnOk result (string_bytes out.new ≡ string_bytes out.old ++ before_verdict run.now.net.now run.now.end (E.entries run.now.history.now) show.now ++ verdict_line run.now.net.now run.now.places.now verdict ++ active_part run.now.net.now (is_told_dry run.now.net.now run.now.standings.now) run.now.end verdict ++ after_verdict run.now.net.now run.now.end (E.entries run.now.history.now) (left_at run.now.standings.now run.now.places.now) show.now) }
+    ensures { OnOk result (string_bytes out.new ≡ as_judged run.now E.Entries show.now verdict (string_bytes out.old)) }
 {
     push_before_verdict(alloc, out, run, show)?;
     push_line(alloc, out, run, verdict)?;
@@ -106,7 +102,7 @@ fn push_line<K: Kinds, E: Entries>(
     run: &Ended<'_, K, E>,
     verdict: Verdict,
 ) -> Result<(), AllocError>
-    ensures { OnOk result (string_bytes out.new ≡ string_bytes out.old ++ verdict_line run.now.net.now run.now.places.now verdict) }
+    ensures { OnOk result (AppendsText out.old out.new (verdict_line run.now.net.now run.now.places.now verdict)) }
 {
     let line = verdict_text(alloc, run.net, run.places, verdict)?;
     out.push_str(line.as_str())
@@ -118,7 +114,7 @@ fn push_active<K: Kinds, E: Entries>(
     run: &Ended<'_, K, E>,
     verdict: Verdict,
 ) -> Result<(), AllocError>
-    ensures { OnOk result (string_bytes out.new ≡ string_bytes out.old ++ active_part run.now.net.now (is_told_dry run.now.net.now run.now.standings.now) run.now.end verdict) }
+    ensures { OnOk result (AppendsText out.old out.new (active_by run.now verdict)) }
 {
     match (run.end, verdict) {
         (End::Ceiling | End::Budget, Verdict::RanDry) => {

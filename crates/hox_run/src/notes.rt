@@ -1,7 +1,7 @@
 //! What a run left unused.
 ghost use Rattle.std.specs.Prelude.{◌≡◌, ◌<◌, ◌-◌, IfOk, Some, length};
 ghost use Rattle.kpn_model.specs.declared.history.Place.TheVariants.{Stopped};
-ghost use Rattle.hox_run.specs.Cuts.{left_at};
+ghost use Rattle.hox_run.specs.Ended.{entries_in, left_by};
 ghost use Rattle.hox_run.specs.Notes.{AreNotes, has_put, is_place_of_stopped, is_put_on, is_source, is_taken_from, source_of, spent, taken_count};
 
 use crate::cut::left_at;
@@ -33,7 +33,7 @@ pub(crate) fn notes_of<K: Kinds, E: Entries>(
     run: &Ended<'_, K, E>,
     verdict: Verdict,
 ) -> Result<Notes, AllocError>
-    ensures { IfOk result (AreNotes run.now.net.now verdict (E.entries run.now.history.now) (left_at run.now.standings.now run.now.places.now)) }
+    ensures { IfOk result (AreNotes run.now.net.now verdict (entries_in run.now E.Entries) (left_by run.now)) }
 {
     let mut sources = Vec::new(alloc);
     for c in 0..run.net.channels() {
@@ -59,7 +59,7 @@ fn spent<K: Kinds>(net: &Net<K>, verdict: Verdict) -> Option<u64>
 /// Returns whether the writer of a channel stopped without a put on it.
 fn is_source<K: Kinds, E: Entries>(run: &Ended<'_, K, E>, c: usize) -> bool
     requires { c < length run.now.net.now.channels }
-    ensures { result ≡ is_source run.now.net.now (E.entries run.now.history.now) (left_at run.now.standings.now run.now.places.now) c }
+    ensures { result ≡ is_source run.now.net.now (entries_in run.now E.Entries) (left_by run.now) c }
 {
     let left = left_at(run.standings, run.places, run.net.ends(c).writer);
     is_stopped(left) && !has_put(run.history, c)

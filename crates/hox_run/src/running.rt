@@ -1,11 +1,10 @@
 //! Runs a network.
 ghost use Rattle.std.specs.Prelude.{◌≡◌, ◌≢◌, ◌+◌, ◌<◌, ◌≤◌, ℕ, IfOk, IsSome, None, Err, length, map};
 ghost use Rattle.std.specs.List.{All};
-ghost use Rattle.kpn_model.specs.Families.{family};
 ghost use Rattle.kpn_state.specs.declared.standing.Standing.TheVariants.{Out};
 ghost use Rattle.kpn_state.specs.Standings.{standing};
 ghost use Rattle.hox_run.specs.Cuts.{IsWithin};
-ghost use Rattle.hox_run.specs.Telling.{IsOfRun, MayShareRun, TellsRun};
+ghost use Rattle.hox_run.specs.Telling.{IsOfRun, MayShareFor, TellsWanted};
 
 use crate::progress::{OnBoard, ProgressReceiver, tell_of};
 use crate::shown::{WantedRun, WantedStreams};
@@ -47,7 +46,7 @@ pub fn execute<K: Computes, R: Wait + Clock + Threads + Sync, P: ProgressReceive
     wanted: &WantedRun<'_, '_, P>,
 ) -> Result<Told, NoResult>
     requires { All (IsWithin net) wanted.now.streams.outputs.now }
-    ensures told { IfOk result (TellsRun (family K.Kinds) net wanted.now.streams.show.now wanted.now.streams.outputs.now) }
+    ensures told { IfOk result (TellsWanted K.Kinds net wanted.now.streams) }
     ensures lost { result ≡ Err NoResult.Lost → 1 < wanted.now.workers }
 {
     let Ok(bodies) = bodies_of(alloc, &net) else {
@@ -67,7 +66,7 @@ fn execute_alone<K: Computes, P: ProgressReceiver>(
     wanted: &WantedRun<'_, '_, P>,
 ) -> Result<Told, AllocError>
     requires { All (IsWithin net) wanted.now.streams.outputs.now }
-    ensures { IfOk result (TellsRun (family K.Kinds) net wanted.now.streams.show.now wanted.now.streams.outputs.now) }
+    ensures { IfOk result (TellsWanted K.Kinds net wanted.now.streams) }
 {
     let Ok(mut machine) = Machine::<CardBody<K>, Tallied>::open_with_keeper(alloc, net, bodies)
     else {
@@ -111,8 +110,8 @@ fn execute_by_workers<K: Computes, R: Wait + Clock + Threads + Sync, P: Progress
     bodies: Vec<CardBody<K>>,
     wanted: &WantedRun<'_, '_, P>,
 ) -> Result<Told, NoResult>
-    requires { MayShareRun net (map ⟦<CardBody<K> as Body>⟧.card bodies.items) wanted.now.workers wanted.now.streams.outputs.now }
-    ensures { IfOk result (TellsRun (family K.Kinds) net wanted.now.streams.show.now wanted.now.streams.outputs.now) }
+    requires { MayShareFor net (map ⟦<CardBody<K> as Body>⟧.card bodies.items) wanted.now.workers wanted.now.streams }
+    ensures { IfOk result (TellsWanted K.Kinds net wanted.now.streams) }
 {
     let workers = wanted.workers.min(MOST_WORKERS);
     if !wanted.progress.is_wanted() {
@@ -158,7 +157,7 @@ fn told_of_run<K: Computes>(
     wanted: &WantedStreams<'_>,
 ) -> Result<Told, NoResult>
     requires { All (IsWithin ran.now.machine.network) wanted.now.outputs.now }
-    ensures { IfOk result (TellsRun (family K.Kinds) ran.now.machine.network wanted.now.show.now wanted.now.outputs.now) }
+    ensures { IfOk result (TellsWanted K.Kinds ran.now.machine.network wanted.now) }
 {
     if ran.end().is_none() {
         return Err(NoResult::Lost);

@@ -1,11 +1,9 @@
 //! Runs a described network as requested.
-ghost use Rattle.std.specs.Prelude.{◌≡◌, ◌⊎◌, ℕ, IfOk, IfErr, IfNone, IfSome, None};
+ghost use Rattle.std.specs.Prelude.{◌≡◌, IfOk, IfErr, IfNone, IfSome, None};
 ghost use Rattle.std.specs.List.{All};
-ghost use Rattle.kpn_model.specs.Network.{number_of_channel, Network as NetworkV};
-ghost use Rattle.kpn_model.specs.Families.{family};
-ghost use Rattle.hox_network.specs.Preparing.{LacksChannel, Prepares, ServesFrom};
+ghost use Rattle.kpn_model.specs.Network.{number_of_channel};
 ghost use Rattle.hox_run.specs.Cuts.{IsWithin};
-ghost use Rattle.hox_run.specs.Serving.{AreNamed, GivesRun, IsNamed, names_of};
+ghost use Rattle.hox_run.specs.Serving.{AreNamed, GivesPrepared, IsNamed, LacksSome, ServesRun};
 
 use crate::progress::ProgressReceiver;
 use crate::running::execute;
@@ -34,7 +32,7 @@ pub fn serve<K: Computes, I: Source, R: Wait + Clock + Threads + Sync, P: Progre
     source: &mut I,
     progress: &P,
 ) -> Result<Told, Fault>
-    ensures { ServesFrom K.named K.signature (GivesRun (family K.Kinds) request.now) (I.remaining source.old) (I.remaining source.new) (I.has_failed source.old) (I.has_failed source.new) result }
+    ensures { ServesRun K.Kinds request.now I.Source source.old source.new result }
 {
     let prepared: Result<Net<K>, Fault> = prepare(alloc, request, source);
     match prepared {
@@ -50,7 +48,7 @@ fn serve_prepared<K: Computes, R: Wait + Clock + Threads + Sync, P: ProgressRece
     net: Net<K>,
     progress: &P,
 ) -> Result<Told, Fault>
-    ensures { (loaded : NetworkV) → Prepares request.now loaded net → GivesRun (family K.Kinds) request.now loaded result }
+    ensures { GivesPrepared K.Kinds request.now net result }
 {
     let show = match channels_in(alloc, &net, request.show.as_slice()) {
         Ok(show) => show,
@@ -92,7 +90,7 @@ fn channels_in<K: Kinds, W: Copy + Drop>(
 ) -> Result<Vec<ChannelAs<W>>, Missing>
     ensures named { IfOk result (λ v. AreNamed net.now texts.now v.items) }
     ensures within { IfOk result (λ v. All (IsWithin net.now) v.items) }
-    ensures missing { IfErr result (λ e. (e ≡ Missing.Memory) ⊎ ((k : ℕ) × (e ≡ Missing.Channel k) × LacksChannel net.now (names_of texts.now) k)) }
+    ensures missing { IfErr result (LacksSome net.now texts.now) }
 {
     let mut channels = Vec::new(alloc);
     for k in 0..texts.len() {

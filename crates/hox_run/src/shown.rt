@@ -1,8 +1,9 @@
 //! Lines with the streams of channels.
-ghost use Rattle.std.specs.Prelude.{◌≡◌, ◌++◌, [], OnOk, slice_index_or, string_bytes};
+ghost use Rattle.std.specs.Prelude.{◌≡◌, ◌++◌, OnOk};
 ghost use Rattle.std.specs.List.{flat_map};
-ghost use Rattle.kpn_model.specs.History.{each_channel, stream};
-ghost use Rattle.hox_run.specs.Cuts.{before_verdict, streams_text, token_part, tokens_line};
+ghost use Rattle.kpn_report.specs.Text.{AppendsText};
+ghost use Rattle.hox_run.specs.Cuts.{text_of_line, token_part};
+ghost use Rattle.hox_run.specs.Ended.{before_by, stream_by, streams_by};
 
 use crate::ended::Ended;
 use kpn_model::{End, Kinds, Token};
@@ -42,7 +43,7 @@ pub(crate) fn push_before_verdict<K: Kinds, E: Entries>(
     run: &Ended<'_, K, E>,
     show: &[ChannelAs<Decimals>],
 ) -> Result<(), AllocError>
-    ensures { OnOk result (string_bytes out.new ≡ string_bytes out.old ++ before_verdict run.now.net.now run.now.end (E.entries run.now.history.now) show.now) }
+    ensures { OnOk result (AppendsText out.old out.new (before_by run.now E.Entries show.now)) }
 {
     match run.end {
         End::Terminated | End::Deadlock | End::Ceiling => {
@@ -60,7 +61,7 @@ pub(crate) fn push_streams<K: Kinds, E: Entries>(
     channels: &[ChannelAs<Decimals>],
     word: &str,
 ) -> Result<(), AllocError>
-    ensures { OnOk result (string_bytes out.new ≡ string_bytes out.old ++ streams_text run.now.net.now word.now (E.entries run.now.history.now) channels.now) }
+    ensures { OnOk result (AppendsText out.old out.new (streams_by run.now E.Entries word.now channels.now)) }
 {
     for channel in channels {
         push_stream(alloc, out, run, *channel, word)?;
@@ -75,7 +76,7 @@ fn push_stream<K: Kinds, E: Entries>(
     channel: ChannelAs<Decimals>,
     word: &str,
 ) -> Result<(), AllocError>
-    ensures { OnOk result (string_bytes out.new ≡ string_bytes out.old ++ tokens_line run.now.net.now word.now (slice_index_or (each_channel run.now.net.now (λ b. stream run.now.net.now (E.entries run.now.history.now) b)) channel.channel []) channel) }
+    ensures { OnOk result (AppendsText out.old out.new (stream_by run.now E.Entries word.now channel)) }
 {
     let tokens = stream_of_entries(alloc, run.net, run.history, channel.channel)?;
     let line = StreamLine {
@@ -100,7 +101,7 @@ fn push_line<K: Kinds>(
     net: &Net<K>,
     line: &StreamLine<'_>,
 ) -> Result<(), AllocError>
-    ensures { OnOk result (string_bytes out.new ≡ string_bytes out.old ++ tokens_line net.now line.now.word.now line.now.tokens.now line.now.channel) }
+    ensures { OnOk result (AppendsText out.old out.new (text_of_line net.now line.now)) }
 {
     out.push_str(line.word)?;
     out.push_str(channel_name(net, line.channel.channel))?;
@@ -114,7 +115,7 @@ fn push_tokens(
     decimals: Decimals,
     tokens: &[Token],
 ) -> Result<(), AllocError>
-    ensures { OnOk result (string_bytes out.new ≡ string_bytes out.old ++ flat_map (token_part decimals) tokens.now) }
+    ensures { OnOk result (AppendsText out.old out.new (flat_map (token_part decimals) tokens.now)) }
 {
     let mut bytes = Vec::new(alloc);
     for token in tokens {
@@ -132,7 +133,7 @@ fn append_part(out: &mut Vec<u8>, decimals: Decimals, token: Token) -> Result<()
 
 /// Appends bytes that are UTF-8, as those of tokens are.
 fn push_bytes(out: &mut String, bytes: &[u8]) -> Result<(), AllocError>
-    ensures { OnOk result (string_bytes out.new ≡ string_bytes out.old ++ bytes.now) }
+    ensures { OnOk result (AppendsText out.old out.new bytes.now) }
 {
     match str::from_utf8(bytes) {
         Ok(text) => out.push_str(text),

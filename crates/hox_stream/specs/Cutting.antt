@@ -1,5 +1,5 @@
 -- Text that arrives in pieces, cut into records.
-use Rattle.std.specs.Prelude.{◌≡◌, ◌<◌, ◌≤◌, ◌+◌, ◌++◌, ℕ, Bool, true, List, [], length, drop, nat_le, Option, Some, None, Ok, Err}
+use Rattle.std.specs.Prelude.{◌≡◌, ◌<◌, ◌≤◌, ◌+◌, ◌++◌, ℕ, Bool, true, List, [], length, drop, nat_le, Option, Some, None}
 use Rattle.std.specs.List.{list_any}
 use Rattle.kpn_model.specs.declared.token.Token.{Token}
 use Rattle.kpn_model.specs.declared.token.Sort.{Sort}
@@ -7,7 +7,7 @@ use Rattle.kpn_model.specs.Valid.{IsOfSort}
 use Rattle.kpn_tokens.specs.declared.layouts.Layout.{Layout}
 use Rattle.kpn_tokens.specs.declared.layouts.Layout.TheVariants.{Lines, Fields, Frames}
 use Rattle.kpn_tokens.specs.declared.layouts.RecordFault.{RecordFault}
-use Rattle.kpn_tokens.specs.Records.{Begin, Fails, IsEnded, IsWhole, Say, first, record_said, rest}
+use Rattle.kpn_tokens.specs.Records.{Begin, Fails, FirstFails, FirstSays, IsEnded, IsWhole, Say, first, rest}
 use Rattle.kpn_tokens.specs.Rows.{is_line_feed}
 use Rattle.kpn_tokens.specs.Samples.{frame_size}
 use Rattle.hox_stream.specs.declared.cutting.Refusal.{Refusal}
@@ -24,13 +24,15 @@ has_record (Frames frame) bytes = nat_le (frame_size frame) (length bytes)
 
 -- why the first record is rejected
 abbrev pub IsRefused : Layout → Sort → List ℕ → Bool → Refusal → Type 0
-IsRefused layout sort bytes last (Fault fault) = (record_said layout sort (first layout bytes) ≡ Err fault) × (0 < length bytes) × IsWhole layout bytes last
+IsRefused layout sort bytes last (Fault fault) =
+    FirstFails layout sort bytes fault × (0 < length bytes) × IsWhole layout bytes last
 IsRefused layout sort bytes last TooLong = 4096 < length (first layout bytes)
 
 -- what these bytes begin with: a record, a rejected one, or no record yet; or out of memory
 abbrev pub IsNext : Layout → Sort → List ℕ → Bool → Next → Type 0
 IsNext layout sort bytes last (Record said used) =
-    (record_said layout sort (first layout bytes) ≡ Ok said) × (0 < length bytes) × (drop used bytes ≡ rest layout bytes) × (used ≤ length bytes) × IsWhole layout bytes last × (length (first layout bytes) ≤ 4096)
+    FirstSays layout sort bytes said × (0 < length bytes) × (drop used bytes ≡ rest layout bytes)
+    × (used ≤ length bytes) × IsWhole layout bytes last × (length (first layout bytes) ≤ 4096)
 IsNext layout sort bytes last (Refused refusal) = IsRefused layout sort bytes last refusal
 IsNext layout sort bytes last Wanting = (IsEnded layout bytes → ⊥) × (length bytes ≤ 4096) × (last ≡ true → bytes ≡ [])
 IsNext layout sort bytes last Memory = 0 < length bytes

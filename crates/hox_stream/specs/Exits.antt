@@ -21,14 +21,22 @@ abbrev pub exit_name : Sort → List ℕ
 exit_name Words = codes "words written out"
 exit_name Flags = codes "flags written out"
 
+-- the second exit, if the name is its own
+abbrev pub flags_exit : List ℕ → Option (ℕ × ℕ)
+flags_exit name = if bytes_eq name (exit_name Flags) then Some (1, 0) else None
+
 abbrev pub exit_named : List ℕ → Option (ℕ × ℕ)
-exit_named name = if bytes_eq name (exit_name Words) then Some (0, 0) else if bytes_eq name (exit_name Flags) then Some (1, 0) else None
+exit_named name = if bytes_eq name (exit_name Words) then Some (0, 0) else flags_exit name
 
 abbrev pub one_input : Sort → Signature
 one_input sort = record { ins = Some sort ∷ None ∷ None ∷ []; outs = None ∷ None ∷ None ∷ [] }
 
+-- the ports of the second exit
+abbrev pub flags_exit_ports : Card → Option Signature
+flags_exit_ports card = if card.kind == 1 then Some (one_input Flags) else None
+
 abbrev pub exit_ports : Card → Option Signature
-exit_ports card = if card.kind == 0 then Some (one_input Words) else if card.kind == 1 then Some (one_input Flags) else None
+exit_ports card = if card.kind == 0 then Some (one_input Words) else flags_exit_ports card
 
 abbrev pub exits : Family
 exits = record { start = λ card. nothing_kept; answer = λ card local last. record { next = local; act = Stop } }
@@ -47,9 +55,13 @@ is_one_of names name = list_any (λ other. bytes_eq other name) names
 abbrev pub channel_to : List ChannelSketch → List (List ℕ) → List ℕ → Option ChannelSketch
 channel_to channels names process = find (λ c. bytes_eq c.to process && is_one_of names c.name) channels
 
+-- the exit that reads this channel, if it is there
+abbrev pub exit_for : ProcessSketch → Option ChannelSketch → ProcessSketch
+exit_for p channel = option_map_or (λ c. record p { kind = exit_name c.sort; args = [] }) channel p
+
 -- a process that only reads a channel of one of these names stops at once
 abbrev pub exited : List ChannelSketch → List (List ℕ) → ProcessSketch → ProcessSketch
-exited channels names p = if is_reader p.kind then option_map_or (λ c. record p { kind = exit_name c.sort; args = [] }) (channel_to channels names p.name) p else p
+exited channels names p = if is_reader p.kind then exit_for p (channel_to channels names p.name) else p
 
 abbrev pub with_exits : List (List ℕ) → Sketch → Sketch
 with_exits names sketch = record sketch { processes = map (exited sketch.channels names) sketch.processes }

@@ -17,8 +17,9 @@ abbrev pub end_of : List ℕ → ℕ → ℕ
 end_of ends zero = 0
 end_of ends (suc k) = get_or ends k 0
 
--- the first `count` records have the first of these tokens, and end at the first of these places
-pub record Gathers (layout : Layout) (sort : Sort) (text : List ℕ) (tokens : List Token) (ends : List ℕ) (count : ℕ) : Type 0 where
-  pub within : (k : ℕ) → k ≤ count → end_of ends k ≤ length text
-  pub leads : (k : ℕ) → k ≤ count → LeadsOn layout sort text (drop (end_of ends k) text) (take k tokens)
-  pub sorts : All (IsOfSort sort) (take count tokens)
+module _ (layout : Layout) (sort : Sort) (text : List ℕ) where
+  -- the first `count` records have the first of these tokens, and end at the first of these places
+  pub record Gathers (tokens : List Token) (ends : List ℕ) (count : ℕ) : Type 0 where
+    pub within : (k : ℕ) → k ≤ count → end_of ends k ≤ length text
+    pub leads : (k : ℕ) → k ≤ count → LeadsOn layout sort text (drop (end_of ends k) text) (take k tokens)
+    pub sorts : All (IsOfSort sort) (take count tokens)

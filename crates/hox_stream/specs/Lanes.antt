@@ -1,15 +1,19 @@
 -- A column of a table.
-use Rattle.std.specs.Prelude.{◌≡◌, ◌++◌, ◌||◌, ℕ, false, not, List, [], length}
+use Rattle.std.specs.Prelude.{◌≡◌, ◌++◌, ◌||◌, ℕ, not, List, length}
 use Rattle.kpn_model.specs.declared.token.Token.{Token}
 use Rattle.kpn_tokens.specs.declared.layouts.Decimals.{Decimals}
 use Rattle.kpn_tokens.specs.declared.tables.Table.{Table}
 use Rattle.kpn_tokens.specs.Tables.{column_layout}
 use Rattle.hox_stream.specs.Ports.{CountsOn, are_written, clipped_of, written_of}
-use Rattle.hox_stream.specs.Views.{LaneView}
+use Rattle.hox_stream.specs.Views.{HeadView, LaneView, fresh_lane}
+
+-- the head of a column
+abbrev pub new_head : Table → ℕ → Decimals → HeadView
+new_head table channel decimals =
+    record { channel = channel; decimals = decimals; layout = column_layout table 1 0 decimals }
 
 abbrev pub new_lane : Table → ℕ → Decimals → LaneView
-new_lane table channel decimals =
-    record { head = record { channel = channel; decimals = decimals; layout = column_layout table 1 0 decimals }; waiting = []; is_misfit = false; tokens = 0; clipped = 0 }
+new_lane table channel decimals = fresh_lane (new_head table channel decimals)
 
 -- a column took these tokens, up to the first that does not fit
 pub record TakesIn (p q : LaneView) (tokens : List Token) : Type 0 where

@@ -1,19 +1,20 @@
 -- Tokens that come in from a source, and go out to a sink.
-use Rattle.std.specs.Prelude.{◌≡◌, ◌<◌, ◌≤◌, ◌+◌, ◌-◌, ◌^◌, ◌++◌, ◌&&◌, ◌||◌, ◌⊎◌, ℕ, Bool, true, false, not, List, [], length, map, if◌then◌else◌, Result, Ok, IfErr}
+use Rattle.std.specs.Prelude.{◌≡◌, ◌<◌, ◌≤◌, ◌+◌, ◌-◌, ◌^◌, ◌++◌, ◌&&◌, ◌||◌, ◌⊎◌, ℕ, Bool, true, false, not, List, [], length, map, if◌then◌else◌, Result, Ok, IfErr, ◌≢◌, drop}
 use Rattle.std.specs.List.{flat_map, list_all, take_while}
 use Rattle.std.specs.Io.Iter.{u64_saturate}
 use Rattle.std.specs.Io.KnownBytes.{Appends, Consumes, IsAtEnd}
 use Rattle.kpn_model.specs.declared.token.Token.{Token}
-use Rattle.kpn_model.specs.Network.{Family}
+use Rattle.kpn_model.specs.Network.{Family, Network, channel_of}
 use Rattle.kpn_tokens.specs.declared.layouts.Layout.{Layout}
 use Rattle.kpn_tokens.specs.Records.{clips, fits, misfits, record_text}
-use Rattle.kpn_flow.specs.Events.{Fed, Drained, Flows}
+use Rattle.kpn_flow.specs.Events.{Event, Fed, Drained, Flows}
 use Rattle.kpn_flow.specs.Flows.{FlowView, IsSameFlow, is_among}
 use Rattle.kpn_flow.specs.Preloaded.{IsAtEnds}
 use Rattle.hox_stream.specs.declared.outlet.WriteFault.{WriteFault}
 use Rattle.hox_stream.specs.declared.outlet.WriteFault.TheVariants.{Failed, Misfit, Memory}
 use Rattle.hox_stream.specs.declared.cutting.Next.{Next}
-use Rattle.hox_stream.specs.Cutting.{IsNext, Passes, has_record}
+use Rattle.hox_stream.specs.declared.cutting.Refusal.{Refusal}
+use Rattle.hox_stream.specs.Cutting.{IsNext, IsRefused, Passes, has_record}
 use Rattle.hox_stream.specs.Views.{InletView, OutletView, unread}
 
 -- m is n + k; a count stays at 2 ^ 64 - 1 once it is there
@@ -34,9 +35,17 @@ pub record Takes (p q : InletView) (tokens : List Token) : Type 0 where
 abbrev pub are_written : Layout → List Token → Bool
 are_written layout tokens = clips layout || list_all (fits layout) tokens
 
+-- the tokens before the first that does not fit, or all if they are clipped
+abbrev pub up_to_misfit : Layout → List Token → List Token
+up_to_misfit layout tokens = if clips layout then tokens else take_while (fits layout) tokens
+
 -- the tokens before the first that does not fit and is not clipped; none after such a misfit
 abbrev pub written_of : Layout → Bool → List Token → List Token
-written_of layout misfit tokens = if misfit then [] else if clips layout then tokens else take_while (fits layout) tokens
+written_of layout misfit tokens = if misfit then [] else up_to_misfit layout tokens
+
+-- their records
+abbrev pub written_text : Layout → Bool → List Token → List ℕ
+written_text layout misfit tokens = flat_map (record_text layout) (written_of layout misfit tokens)
 
 -- how many of them are clipped
 abbrev pub clipped_of : Layout → Bool → List Token → ℕ
@@ -79,6 +88,27 @@ wants_more p = not p.is_over && not (has_record p.layout p.kept)
 abbrev pub IsRead : InletView → InletView → Type 0
 IsRead p q = (length p.kept < length q.kept) ⊎ ((p.is_over ≡ false) × (q.is_over ≡ true))
 
+-- or more bytes are held than a record may have
+abbrev pub IsReadOrFull : InletView → InletView → Type 0
+IsReadOrFull p q = IsRead p q ⊎ (4096 < length q.kept)
+
+-- so many bytes, records and tokens were taken
+abbrev pub with_records_taken : InletView → ℕ → ℕ → ℕ → InletView
+with_records_taken p used records tokens =
+    record p {
+      kept = drop used p.kept;
+      records = u64_saturate (p.records + records);
+      tokens = u64_saturate (p.tokens + tokens);
+    }
+
+-- the first record of what is held is rejected
+abbrev pub IsRejectedIn : InletView → Refusal → Type 0
+IsRejectedIn p refusal = IsRefused p.layout p.sort p.kept p.is_over refusal
+
+-- the channel has another sort than the source
+abbrev pub HasOtherSort : Network → InletView → Type 0
+HasOtherSort net p = p.sort ≢ (channel_of net p.channel).sort
+
 pub record IsNotRead (p q : InletView) : Type 0 where
   pub kept : length q.kept ≤ length p.kept
   pub remaining : q.remaining ≡ p.remaining
@@ -99,6 +129,21 @@ pub record IsSameNet (s t : FlowView) : Type 0 where
   pub network : t.network ≡ s.network
   pub inputs : t.inputs ≡ s.inputs
   pub outputs : t.outputs ≡ s.outputs
+
+-- events that feed a channel, and that drain one
+abbrev pub events_fed : ℕ → List Token → List Event
+events_fed channel tokens = map (λ token. Fed channel token) tokens
+
+abbrev pub events_drained : ℕ → List Token → List Event
+events_drained channel tokens = map (λ token. Drained channel token) tokens
+
+-- events are only at the ends of the flow
+abbrev pub AreAtItsEnds : FlowView → List Event → Type 0
+AreAtItsEnds s events = IsAtEnds (is_among s.inputs) (is_among s.outputs) events
+
+-- feeding a channel with these tokens leads the flow on
+abbrev pub FlowsFed : Family → FlowView → FlowView → ℕ → List Token → Type 0
+FlowsFed kinds s t channel tokens = Flows kinds s.network s.state (events_fed channel tokens) t.state
 
 module _ (kinds : Family) (s t : FlowView) where
   -- the tokens taken from a source were fed into its channel; nothing else happened

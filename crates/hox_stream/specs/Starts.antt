@@ -5,14 +5,19 @@ use Rattle.kpn_model.specs.declared.kinds.Card.{Card}
 use Rattle.kpn_model.specs.declared.kinds.Signature.{Signature}
 use Rattle.kpn_model.specs.declared.parts.Channel.{Channel}
 use Rattle.kpn_model.specs.declared.parts.Process.{Process}
+use Rattle.kpn_model.specs.declared.kinds.Kinds.{Ghosts as KindsOf}
+use Rattle.kpn_model.specs.Families.{family}
 use Rattle.kpn_model.specs.Network.{Family, Network, channel_of, number_of_channel}
 use Rattle.kpn_model.specs.Semantics.{start}
 use Rattle.kpn_sketch.specs.declared.fault.NetFault.{NetFault}
 use Rattle.kpn_sketch.specs.declared.fault.NetFault.TheVariants.{Memory as NoMemoryForNet}
 use Rattle.kpn_sketch.specs.declared.sketch.Sketch.{Sketch}
+use Rattle.kpn_compute.specs.Both.{both_family, both_named, both_ports}
 use Rattle.kpn_net.specs.Faults.{first_fault}
+use Rattle.kpn_net.specs.Sketched.{net_of}
 use Rattle.kpn_flow.specs.Ends.{AreApart, has_twice, is_no_channel, stops_at_once}
 use Rattle.kpn_flow.specs.Flows.{FlowView, AreEnds, is_among, nothing_counted}
+use Rattle.hox_stream.specs.Exits.{exit_named, exit_ports, exits, with_exits}
 use Rattle.hox_stream.specs.declared.starting.Way.{Way}
 use Rattle.hox_stream.specs.declared.starting.Way.TheVariants.{In, Out}
 use Rattle.hox_stream.specs.declared.starting.NameFault.{NameFault}
@@ -37,6 +42,10 @@ outer_process Out c = c.reader
 
 abbrev pub is_twice : List ℕ → List ℕ → Bool
 is_twice inputs outputs = (has_twice inputs || has_twice outputs) || list_any (is_among outputs) inputs
+
+-- some channel stands twice among these
+abbrev pub AreTwice : List ℕ → List ℕ → Type 0
+AreTwice inputs outputs = is_twice inputs outputs ≡ true
 
 -- a flow at the start of its network, with these inputs and outputs, all different
 pub record IsStart (kinds : Family) (s : FlowView) (inputs outputs : List ℕ) : Type 0 where
@@ -83,11 +92,18 @@ module _ (kinds : Family) (net : Network) where
     pub inputs : AreNamed net fed s.inputs
     pub outputs : AreNamed net drained s.outputs
 
+  -- c is the channel of name k; and this is the name of the process at its outer end
+  abbrev pub NamesChannel : List (List ℕ) → ℕ → ℕ → Type 0
+  NamesChannel names k c = number_of_channel net (get_or names k []) ≡ Some c
+
+  abbrev pub IsOuterName : Way → ℕ → List ℕ → Type 0
+  IsOuterName way c name = IsNameOf net (outer_process way (channel_of net c)) name
+
   -- why the channel of one of these names can't be fed or drained
   abbrev pub IsNameFault : Way → List (List ℕ) → NameFault → Type 0
   IsNameFault way names (NoChannel k) = (k < length names) × (number_of_channel net (get_or names k []) ≡ None)
   IsNameFault way names (Busy k name) =
-      (k < length names) × ((c : ℕ) × (number_of_channel net (get_or names k []) ≡ Some c) × (is_busy way c ≡ true) × IsNameOf net (outer_process way (channel_of net c)) name)
+      (k < length names) × ((c : ℕ) × NamesChannel names k c × (is_busy way c ≡ true) × IsOuterName way c name)
   IsNameFault way names NoMemory = Unit {0}
 
   -- why a stream is not opened
@@ -95,5 +111,35 @@ module _ (kinds : Family) (net : Network) where
   IsStreamFault no_network fed drained (Description fault) = no_network fault
   IsStreamFault no_network fed drained (Input fault) = IsNameFault In fed fault
   IsStreamFault no_network fed drained (Output fault) = IsNameFault Out drained fault
-  IsStreamFault no_network fed drained Twice = (inputs : List ℕ) × (outputs : List ℕ) × AreNamed net fed inputs × AreNamed net drained outputs × (is_twice inputs outputs ≡ true)
+  IsStreamFault no_network fed drained Twice =
+      (inputs outputs : List ℕ) × AreNamed net fed inputs × AreNamed net drained outputs × AreTwice inputs outputs
   IsStreamFault no_network fed drained Memory = Unit {0}
+
+-- the kinds together with exits
+module _ {X : Type 0} (kinds : KindsOf X) where
+  abbrev pub named_with_exits : List ℕ → Option (ℕ × ℕ)
+  named_with_exits = both_named kinds.named exit_named
+
+  abbrev pub ports_with_exits : Card → Option Signature
+  ports_with_exits = both_ports kinds.signature exit_ports
+
+  abbrev pub family_with_exits : Family
+  family_with_exits = both_family (family kinds) exits
+
+module _ {X : Type 0} (kinds : KindsOf X) (sketch : Sketch) where
+  -- the network in which processes that only read channels of these names are exits; and why there is none
+  abbrev pub net_with_exits : List (List ℕ) → Network
+  net_with_exits names = net_of (named_with_exits kinds) (with_exits names sketch)
+
+  abbrev pub HasNoNetWithExits : List (List ℕ) → NetFault → Type 0
+  HasNoNetWithExits names fault =
+      IsNoNetwork (named_with_exits kinds) (ports_with_exits kinds) (with_exits names sketch) fault
+
+  -- a stream of that network is opened; and why none is
+  abbrev pub OpensStream : List (List ℕ) → List (List ℕ) → FlowView → Type 0
+  OpensStream fed drained s =
+      IsStarted (family_with_exits kinds) (net_with_exits drained) fed drained s
+
+  abbrev pub OpensNoStream : List (List ℕ) → List (List ℕ) → StreamFault → Type 0
+  OpensNoStream fed drained fault =
+      IsStreamFault (family_with_exits kinds) (net_with_exits drained) (HasNoNetWithExits drained) fed drained fault

@@ -6,13 +6,12 @@ use Rattle.kpn_model.specs.declared.token.Token.{Token}
 use Rattle.kpn_model.specs.Network.{Family}
 use Rattle.kpn_tokens.specs.declared.layouts.Cell.{Cell}
 use Rattle.kpn_tokens.specs.Records.{listed}
-use Rattle.kpn_tokens.specs.Tables.{ColumnView, longest, row_text, rows_text}
+use Rattle.kpn_tokens.specs.Tables.{ColumnView, first_cell, longest, row_text, rows_text}
 use Rattle.kpn_flow.specs.Events.{Drained, Flows}
-use Rattle.kpn_flow.specs.Flows.{FlowView, IsSameFlow, is_among}
-use Rattle.kpn_flow.specs.Preloaded.{IsAtEnds}
+use Rattle.kpn_flow.specs.Flows.{FlowView, IsSameFlow}
 use Rattle.hox_stream.specs.declared.table.TableFault.{TableFault}
 use Rattle.hox_stream.specs.declared.table.TableFault.TheVariants.{Failed, Misfit, Apart, Memory}
-use Rattle.hox_stream.specs.Ports.{CountsOn, IsSameNet, are_written, clipped_of, written_of}
+use Rattle.hox_stream.specs.Ports.{CountsOn, IsSameNet, are_written, clipped_of, written_of, AreAtItsEnds, events_drained}
 use Rattle.hox_stream.specs.Views.{HeadView, LaneView, TableView, no_lane}
 
 abbrev pub lane_at : TableView → ℕ → LaneView
@@ -27,10 +26,18 @@ column_of lane = record { decimals = lane.head.decimals; tokens = lane.waiting }
 abbrev pub columns_of : List LaneView → List ColumnView
 columns_of lanes = map column_of lanes
 
+-- the first row of what waits
+abbrev pub row_waiting : List LaneView → List Cell
+row_waiting lanes = map first_cell (columns_of lanes)
+
+-- the drained tokens that a column takes
+abbrev pub taken_tokens : (ℕ → List Token) → LaneView → List Token
+taken_tokens drained_of lane = written_of lane.head.layout lane.is_misfit (drained_of lane.head.channel)
+
 -- the drained tokens that columns take, up to those that do not fit
 abbrev pub taken_columns : List LaneView → (ℕ → List Token) → List ColumnView
 taken_columns lanes drained_of =
-    map (λ lane. record { decimals = lane.head.decimals; tokens = written_of lane.head.layout lane.is_misfit (drained_of lane.head.channel) }) lanes
+    map (λ lane. record { decimals = lane.head.decimals; tokens = taken_tokens drained_of lane }) lanes
 
 -- what waits after the first row, and after the first n
 abbrev pub under : LaneView → LaneView
@@ -46,11 +53,15 @@ shortest [] = 0
 shortest (lane ∷ []) = length lane.waiting
 shortest (lane ∷ other ∷ lanes) = min (length lane.waiting) (shortest (other ∷ lanes))
 
+-- the cell has a token
+abbrev pub HasToken : Cell → Type 0
+HasToken cell = is_some cell.token ≡ true
+
 abbrev pub IsFullRow : List HeadView → List Cell → Type 0
 IsFullRow [] [] = ⊤
 IsFullRow [] (cell ∷ cells) = ⊥
 IsFullRow (head ∷ heads) [] = ⊥
-IsFullRow (head ∷ heads) (cell ∷ cells) = (cell.decimals ≡ head.decimals) × (is_some cell.token ≡ true) × IsFullRow heads cells
+IsFullRow (head ∷ heads) (cell ∷ cells) = (cell.decimals ≡ head.decimals) × HasToken cell × IsFullRow heads cells
 
 abbrev pub no_cell : Cell
 no_cell = record { decimals = record { digits = 0; is_unsigned = false }; token = None }
@@ -131,7 +142,7 @@ module _ (kinds : Family) (s t : FlowView) where
     pub tokens : List Token
     pub writes : WritesTable p q (only_at i tokens)
     pub flows : Flows kinds s.network s.state (map (λ token. Drained (lane_at p i).head.channel token) tokens) t.state
-    pub at_ends : IsAtEnds (is_among s.inputs) (is_among s.outputs) (map (λ token. Drained (lane_at p i).head.channel token) tokens)
+    pub at_ends : AreAtItsEnds s (events_drained (lane_at p i).head.channel tokens)
 
   -- so they were, if there were any, up to a fault; the flow has the same ends
   pub record TellsColumn (p q : TableView) (i : ℕ) (result : Result Bool TableFault) : Type 0 where

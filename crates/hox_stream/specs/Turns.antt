@@ -33,9 +33,13 @@ AreReadIfWanted ins after =
     (k : ℕ)
     → k < length ins → wants_more (inlet_at ins k) ≡ false → IsNotRead (inlet_at ins k) (inlet_at after k)
 
+-- no source is read
+abbrev pub NoneIsRead : List InletView → List InletView → Type 0
+NoneIsRead ins after = (k : ℕ) → k < length ins → IsNotRead (inlet_at ins k) (inlet_at after k)
+
 -- no source is read while output waits
 abbrev pub AreReadUnheld : List InletView → List InletView → OutsView → Type 0
-AreReadUnheld ins after outs = AreWritten outs ⊎ ((k : ℕ) → k < length ins → IsNotRead (inlet_at ins k) (inlet_at after k))
+AreReadUnheld ins after outs = AreWritten outs ⊎ NoneIsRead ins after
 
 module _ (kinds : Family) (s t : FlowView) (ins after : List InletView) where
   -- a source was poured, or none was, and read only if it wanted more; or the stream ends for this cause

@@ -67,14 +67,52 @@ pub record OutsView : Type 0 where
   pub sinks : List OutletView
   pub tables : List TableView
 
+-- a source of which nothing was read
+abbrev pub fresh_inlet : ℕ → Layout → Sort → Option (List ℕ) → Bool → InletView
+fresh_inlet channel layout sort remaining has_failed =
+    record {
+      channel = channel;
+      layout = layout;
+      sort = sort;
+      kept = [];
+      remaining = remaining;
+      has_failed = has_failed;
+      is_over = false;
+      records = 0;
+      tokens = 0;
+    }
+
+-- a sink to which nothing was written
+abbrev pub fresh_outlet : ℕ → Layout → Option (List ℕ) → OutletView
+fresh_outlet channel layout contents =
+    record {
+      channel = channel;
+      layout = layout;
+      contents = contents;
+      waiting = [];
+      has_failed = false;
+      is_misfit = false;
+      tokens = 0;
+      clipped = 0;
+    }
+
+-- a column that took nothing
+abbrev pub fresh_lane : HeadView → LaneView
+fresh_lane head = record { head = head; waiting = []; is_misfit = false; tokens = 0; clipped = 0 }
+
+-- a table to which nothing was written
+abbrev pub fresh_table : Table → List LaneView → Option (List ℕ) → TableView
+fresh_table table lanes contents =
+    record { table = table; lanes = lanes; contents = contents; waiting = []; has_failed = false }
+
 abbrev pub no_layout : Layout
 no_layout = Lines (record { digits = 0; is_unsigned = false })
 
 abbrev pub no_inlet : InletView
-no_inlet = record { channel = 0; layout = no_layout; sort = Words; kept = []; remaining = None; has_failed = false; is_over = false; records = 0; tokens = 0 }
+no_inlet = fresh_inlet 0 no_layout Words None false
 
 abbrev pub no_outlet : OutletView
-no_outlet = record { channel = 0; layout = no_layout; contents = None; waiting = []; has_failed = false; is_misfit = false; tokens = 0; clipped = 0 }
+no_outlet = fresh_outlet 0 no_layout None
 
 abbrev pub no_head : HeadView
 no_head = record { channel = 0; decimals = record { digits = 0; is_unsigned = false }; layout = no_layout }

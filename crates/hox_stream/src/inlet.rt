@@ -1,9 +1,9 @@
 //! Sources of tokens.
-ghost use Rattle.std.specs.Prelude.{◌≡◌, ◌<◌, ◌≤◌, ◌+◌, ◌++◌, ◌⊎◌, [], false, true, Err, length, drop, IfOk, Option, vec_len, vec_capacity};
+ghost use Rattle.std.specs.Prelude.{◌≡◌, ◌≤◌, ◌+◌, ◌++◌, false, true, Err, length, drop, IfOk, Option, vec_len, vec_capacity};
 ghost use Rattle.std.specs.List.{list_any};
-ghost use Rattle.std.specs.Io.Iter.{u64_saturate};
 ghost use Rattle.std.specs.Io.KnownBytes.{IsAtEnd};
-ghost use Rattle.hox_stream.specs.Ports.{IsNextIn, IsRead, ReadsOn, wants_more};
+ghost use Rattle.hox_stream.specs.Views.{fresh_inlet};
+ghost use Rattle.hox_stream.specs.Ports.{IsNextIn, ReadsOn, wants_more, IsReadOrFull, with_records_taken};
 
 use crate::cutting::{LONGEST_RECORD, Next, next_of};
 use crate::gathering::Kept;
@@ -61,7 +61,7 @@ impl<S: Source> Inlet<S> {
         sort: Sort,
         source: S,
     ) -> Inlet<S>
-        ensures { result ≡ record { channel = channel; layout = layout; sort = sort; kept = []; remaining = S.remaining source; has_failed = S.has_failed source; is_over = false; records = 0; tokens = 0 } }
+        ensures { result ≡ fresh_inlet channel layout sort (S.remaining source) (S.has_failed source) }
     {
         Inlet {
             channel,
@@ -150,7 +150,7 @@ impl<S: Source> Inlet<S> {
     /// Takes the next `records` records, of `used` bytes in all, with so many tokens.
     pub(crate) fn pass(&mut self, used: usize, records: usize, tokens: usize)
         requires { used ≤ length self.old.kept }
-        ensures { self.new ≡ record self.old { kept = drop used self.old.kept; records = u64_saturate (self.old.records + records); tokens = u64_saturate (self.old.tokens + tokens) } }
+        ensures { self.new ≡ with_records_taken self.old used records tokens }
     {
         self.next += used;
         self.records = self.records.saturating_add(records as u64);
@@ -167,7 +167,7 @@ impl<S: Source> Inlet<S> {
     /// Reads another piece, unless more bytes are held than a record may have. An error loses nothing that is held.
     pub(crate) fn refill(&mut self, alloc: Global) -> Result<(), ReadFault>
         ensures reads { ReadsOn self.old self.new }
-        ensures read { self.old.is_over ≡ false → IfOk result (λ _. IsRead self.old self.new ⊎ (4096 < length self.new.kept)) }
+        ensures read { self.old.is_over ≡ false → IfOk result (λ _. IsReadOrFull self.old self.new) }
         ensures failed { result ≡ Err ReadFault.Failed → self.new.has_failed ≡ true }
     {
         if self.held.len() - self.next > LONGEST_RECORD {

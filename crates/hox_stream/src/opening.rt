@@ -1,10 +1,10 @@
 //! The network of a stream.
-ghost use Rattle.std.specs.Prelude.{◌≡◌, ◌≢◌, IfOk, IfErr, Some, map};
+ghost use Rattle.std.specs.Prelude.{◌≡◌, IfOk, IfErr, Some, map};
 ghost use Rattle.std.specs.Option.{option_copied};
-ghost use Rattle.kpn_compute.specs.Both.{both_named, both_ports};
-ghost use Rattle.kpn_net.specs.Faults.{first_fault};
+ghost use Rattle.kpn_compute.specs.Both.{both_named};
 ghost use Rattle.kpn_net.specs.Sketched.{net_of};
-ghost use Rattle.hox_stream.specs.Exits.{channel_to, exit_named, exit_ports, exited, is_one_of, is_reader, with_exits};
+ghost use Rattle.hox_stream.specs.Starts.{HasNoNetWithExits};
+ghost use Rattle.hox_stream.specs.Exits.{channel_to, exit_named, exited, is_one_of, is_reader, with_exits};
 
 use crate::exits::{Exits, exit_name};
 use kpn_compute::Both;
@@ -20,7 +20,7 @@ pub(crate) fn net_with_exits<K: Kinds>(
     names: &[Text],
 ) -> Result<Net<Both<K, Exits>>, NetFault>
     ensures ok { IfOk result (λ net. net ≡ net_of (both_named K.named exit_named) (with_exits names.now sketch)) }
-    ensures fault { IfErr result (λ e. e ≢ NetFault.Memory → first_fault (both_named K.named exit_named) (both_ports K.signature exit_ports) (with_exits names.now sketch) ≡ Some e) }
+    ensures fault { IfErr result (HasNoNetWithExits K.Kinds sketch names.now) }
 {
     match with_exits(alloc, sketch, names) {
         Ok(opened) => Net::check(alloc, &opened),

@@ -1,10 +1,9 @@
 //! Sinks of tokens.
 ghost use Rattle.std.specs.Prelude.{◌≡◌, ◌≤◌, ◌++◌, [], false, true, not, Err, IfErr, IfOk, OnOk, length};
-ghost use Rattle.std.specs.List.{flat_map};
 ghost use Rattle.std.specs.Io.KnownBytes.{Appends, append_known};
-ghost use Rattle.kpn_tokens.specs.Records.{record_text};
-ghost use Rattle.hox_stream.specs.Ports.{IsWriteFault, Writes, are_written, clipped_of, written_of};
+ghost use Rattle.hox_stream.specs.Ports.{IsWriteFault, Writes, are_written, clipped_of, written_of, written_text};
 ghost use Rattle.hox_stream.specs.Streams.{FlushesSink};
+ghost use Rattle.hox_stream.specs.Views.{fresh_outlet};
 
 use kpn_front::Sink;
 use kpn_tokens::{AppendFault, Layout, Token, append_tokens};
@@ -63,7 +62,7 @@ impl<S: Sink + Drop> Outlet<S> {
         layout: Layout,
         sink: S,
     ) -> Result<Outlet<S>, AllocError>
-        ensures { IfOk result (λ o. o ≡ record { channel = channel; layout = layout; contents = (S.seen sink).contents; waiting = []; has_failed = false; is_misfit = false; tokens = 0; clipped = 0 }) }
+        ensures { IfOk result (λ o. o ≡ fresh_outlet channel layout (S.seen sink).contents) }
     {
         let waiting = Vec::with_capacity(alloc, ROOM)?;
         Ok(Outlet {
@@ -212,7 +211,7 @@ fn append_to(
     layout: Layout,
     tokens: &[Token],
 ) -> Result<Appended, AllocError>
-    ensures appended { OnOk result (waiting.new.items ≡ waiting.old.items ++ flat_map (record_text layout) (written_of layout false tokens.now)) }
+    ensures appended { OnOk result (waiting.new.items ≡ waiting.old.items ++ written_text layout false tokens.now) }
     ensures written { IfOk result (λ a. a.written ≡ length (written_of layout false tokens.now)) }
     ensures clipped { IfOk result (λ a. a.clipped ≡ clipped_of layout false tokens.now) }
     ensures misfit { IfOk result (λ a. a.is_misfit ≡ not (are_written layout tokens.now)) }

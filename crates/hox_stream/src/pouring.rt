@@ -1,16 +1,12 @@
 //! Moves tokens from a source into its channel.
-ghost use Rattle.std.specs.Prelude.{◌≡◌, ◌≢◌, ◌<◌, true, false, [], Err, IsTrue, IfOk, IfSome, IfNone, ◌≤◌, ℕ, length, map};
-ghost use Rattle.kpn_model.specs.Network.{channel_of};
+ghost use Rattle.std.specs.Prelude.{◌≡◌, ◌<◌, true, false, [], Err, IsTrue, IfOk, IfSome, IfNone, ◌≤◌, length};
 ghost use Rattle.kpn_model.specs.Families.{family};
 ghost use Rattle.kpn_tokens.specs.Records.{listed};
-ghost use Rattle.kpn_flow.specs.Events.{Fed, Flows};
 ghost use Rattle.kpn_flow.specs.Flows.{IsSameFlow, is_among, with_ended};
-ghost use Rattle.kpn_flow.specs.Preloaded.{IsAtEnds};
 ghost use Rattle.hox_stream.specs.declared.cutting.Refusal.{Refusal as RefusalV};
-ghost use Rattle.hox_stream.specs.Cutting.{IsRefused};
 ghost use Rattle.hox_stream.specs.Gathering.{end_of};
-ghost use Rattle.hox_stream.specs.Ports.{IsNextIn, IsNotRead, IsReadOnce, Pours, PoursKept, wants_more};
-ghost use Rattle.hox_stream.specs.Streams.{NoneIsWaitedFor, inlet_at, is_waited_for};
+ghost use Rattle.hox_stream.specs.Ports.{IsNextIn, IsNotRead, IsReadOnce, Pours, PoursKept, wants_more, AreAtItsEnds, FlowsFed, HasOtherSort, IsRejectedIn, events_fed};
+ghost use Rattle.hox_stream.specs.Streams.{NoneIsWaitedFor, inlet_at, is_waited_for, NoneIsWaitedFrom};
 ghost use Rattle.hox_stream.specs.Turns.{IsTurnOf, PoursOne, TakesTurn};
 
 use crate::cutting::{Next, Refusal};
@@ -28,8 +24,8 @@ use std::alloc::Global;
 /// Feeds the token of a record, if it has one. Returns false if it can't be fed.
 fn feed_said<B: Body>(flow: &mut Flow<B>, channel: usize, said: Option<Token>) -> bool
     ensures same { IsSameFlow flow.old flow.new }
-    ensures flows { IsTrue result → Flows (family B.Kinds.Kinds) flow.old.network flow.old.state (map (λ token. Fed channel token) (listed said)) flow.new.state }
-    ensures at_ends { IsTrue result → IsAtEnds (is_among flow.old.inputs) (is_among flow.old.outputs) (map (λ token. Fed channel token) (listed said)) }
+    ensures flows { IsTrue result → FlowsFed (family B.Kinds.Kinds) flow.old flow.new channel (listed said) }
+    ensures at_ends { IsTrue result → AreAtItsEnds flow.old (events_fed channel (listed said)) }
     ensures not { result ≡ false → flow.new ≡ flow.old }
 {
     flow.assure_one_run();
@@ -147,9 +143,9 @@ fn pour<B: Body, S: Source>(
     ensures read { IfOk result (λ _. wants_more inlet.old ≡ true → IsReadOnce inlet.old inlet.new) }
     ensures only_if_wanted { wants_more inlet.old ≡ false → IsNotRead inlet.old inlet.new }
     ensures ended { inlet.old.is_over ≡ true → inlet.old.kept ≡ [] → flow.new ≡ with_ended flow.old inlet.old.channel }
-    ensures refused { (refusal : RefusalV) → result ≡ Err (PourFault.Refused refusal) → IsRefused inlet.new.layout inlet.new.sort inlet.new.kept inlet.new.is_over refusal }
+    ensures refused { (refusal : RefusalV) → result ≡ Err (PourFault.Refused refusal) → IsRejectedIn inlet.new refusal }
     ensures failed { result ≡ Err PourFault.Failed → inlet.new.has_failed ≡ true }
-    ensures other_sort { result ≡ Err PourFault.OtherSort → inlet.new.sort ≢ (channel_of flow.new.network inlet.new.channel).sort }
+    ensures other_sort { result ≡ Err PourFault.OtherSort → HasOtherSort flow.new.network inlet.new }
 {
     let channel = inlet.channel();
     match inlet.next(alloc) {
@@ -197,8 +193,8 @@ fn first_starved<B: Body, S: Source>(
     ensures within { IfSome result (λ k. k < length inlets.now) }
     ensures waited { IfSome result (λ k. is_waited_for flow.now (inlet_at inlets.now k) ≡ true) }
     ensures on { IfSome result (λ k. from ≤ k) }
-    ensures first { IfSome result (λ k. (j : ℕ) → j < k → from ≤ j → is_waited_for flow.now (inlet_at inlets.now j) ≡ false) }
-    ensures none { IfNone result ((k : ℕ) → k < length inlets.now → from ≤ k → is_waited_for flow.now (inlet_at inlets.now k) ≡ false) }
+    ensures first { IfSome result (NoneIsWaitedFrom flow.now inlets.now from) }
+    ensures none { IfNone result (NoneIsWaitedFrom flow.now inlets.now from (length inlets.now)) }
 {
     for k in from..inlets.len() {
         if is_waited_for(flow, &inlets[k]) {

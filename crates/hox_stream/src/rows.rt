@@ -1,7 +1,7 @@
 //! The rows of a table.
 ghost use Rattle.std.specs.Prelude.{◌≡◌, ◌∷◌, ◌++◌, OnOk, map};
-ghost use Rattle.kpn_tokens.specs.Tables.{first_cell, longest, row_text};
-ghost use Rattle.hox_stream.specs.Tables.{columns_of, heads_of, shortest, under};
+ghost use Rattle.kpn_tokens.specs.Tables.{longest, row_text};
+ghost use Rattle.hox_stream.specs.Tables.{columns_of, heads_of, shortest, under, row_waiting};
 
 use crate::lane::Lane;
 use kpn_tokens::{Cell, Table, append_row};
@@ -49,7 +49,7 @@ pub(crate) fn append_next(
     waiting: &mut Vec<u8>,
     table: Table,
 ) -> Result<(), AllocError>
-    ensures row { OnOk result (waiting.new.items ≡ waiting.old.items ++ row_text table (map first_cell (columns_of lanes.old))) }
+    ensures row { OnOk result (waiting.new.items ≡ waiting.old.items ++ row_text table (row_waiting lanes.old)) }
     ensures lanes { OnOk result (lanes.new ≡ map under lanes.old) }
     ensures heads { heads_of lanes.new ≡ heads_of lanes.old }
 {

@@ -2,7 +2,7 @@
 ghost use Rattle.std.specs.Prelude.{◌≡◌, IfOk};
 ghost use Rattle.kpn_model.specs.Network.{channel_of};
 ghost use Rattle.kpn_model.specs.Families.{family};
-ghost use Rattle.hox_stream.specs.Serves.{Serves, new_inlet, new_inlets, new_outs};
+ghost use Rattle.hox_stream.specs.Serves.{Serves, new_inlets, new_outs, laid_inlet, flow_inlets};
 ghost use Rattle.hox_stream.specs.Views.{outs};
 
 use crate::finish::StreamFinish;
@@ -115,7 +115,7 @@ fn ports_of<F: Computes, I: Source + Drop, O: Sink + Drop>(
     sinks: Vec<LaidOut<O>>,
     tables: Vec<LaidTable<O>>,
 ) -> Result<Ports<I, O>, AllocError>
-    ensures inlets { IfOk result (λ r. r.inlets.items ≡ new_inlets I.remaining I.has_failed opened.now.network opened.now.inputs sources.items) }
+    ensures inlets { IfOk result (λ r. r.inlets.items ≡ flow_inlets I.remaining I.has_failed opened.now sources.items) }
     ensures outs { IfOk result (λ r. r.outs ≡ new_outs O.seen opened.now.outputs sinks.items tables.items) }
 {
     let net = opened.flow.net();
@@ -151,7 +151,7 @@ fn inlet_for<K: Kinds, S: Source>(
     channel: usize,
     source: LaidOut<S>,
 ) -> Inlet<S>
-    ensures { result ≡ new_inlet net.now channel source.layout (S.remaining source.stream) (S.has_failed source.stream) }
+    ensures { result ≡ laid_inlet S.remaining S.has_failed net.now channel source }
 {
     let sort = sort_of(net, channel);
     Inlet::new(alloc, channel, source.layout, sort, source.stream)

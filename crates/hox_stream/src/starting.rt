@@ -1,13 +1,10 @@
 //! Opens a stream.
 ghost use Rattle.std.specs.Prelude.{◌≡◌, ◌<◌, ◌⊎◌, false, IfOk, IfErr, length, map};
 ghost use Rattle.std.specs.List.{list_any};
-ghost use Rattle.kpn_compute.specs.Both.{both_family, both_named, both_ports};
 ghost use Rattle.kpn_model.specs.Network.{channel_of};
 ghost use Rattle.kpn_model.specs.Families.{family};
 ghost use Rattle.kpn_flow.specs.Ends.{is_no_channel};
-ghost use Rattle.kpn_net.specs.Sketched.{net_of};
-ghost use Rattle.hox_stream.specs.Exits.{exit_named, exit_ports, exits, with_exits};
-ghost use Rattle.hox_stream.specs.Starts.{AreNamed, IsFresh, IsNameFault, IsNameOf, IsNoNetwork, IsStart, IsStarted, IsStartFault, IsStreamFault, MayFlow, cards_in, is_busy, outer_process};
+ghost use Rattle.hox_stream.specs.Starts.{AreNamed, IsFresh, IsNameFault, IsNameOf, IsStart, IsStarted, IsStartFault, IsStreamFault, MayFlow, cards_in, is_busy, outer_process, OpensNoStream, OpensStream};
 
 use crate::exits::Exits;
 use crate::opening::net_with_exits;
@@ -107,8 +104,8 @@ pub fn open_stream<K: Computes>(
     fed: &[Text],
     drained: &[Text],
 ) -> Result<OpenStream<Both<K, Exits>>, StreamFault>
-    ensures ok { IfOk result (IsStarted (both_family (family K.Kinds) exits) (net_of (both_named K.named exit_named) (with_exits drained.now sketch)) fed.now drained.now) }
-    ensures fault { IfErr result (IsStreamFault (both_family (family K.Kinds) exits) (net_of (both_named K.named exit_named) (with_exits drained.now sketch)) (IsNoNetwork (both_named K.named exit_named) (both_ports K.signature exit_ports) (with_exits drained.now sketch)) fed.now drained.now) }
+    ensures ok { IfOk result (OpensStream K.Kinds sketch fed.now drained.now) }
+    ensures fault { IfErr result (OpensNoStream K.Kinds sketch fed.now drained.now) }
 {
     match net_with_exits::<K>(alloc, sketch, drained) {
         Ok(net) => open_net(alloc, net, fed, drained),

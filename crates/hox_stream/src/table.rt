@@ -1,7 +1,8 @@
 //! Sinks for several channels.
-ghost use Rattle.std.specs.Prelude.{◌≡◌, ◌<◌, ◌≤◌, [], true, false, Err, IfErr, IfOk, OnOk, length, set};
+ghost use Rattle.std.specs.Prelude.{◌≡◌, ◌<◌, ◌≤◌, true, false, Err, IfErr, IfOk, OnOk, length, set};
 ghost use Rattle.std.specs.Io.KnownBytes.{append_known};
 ghost use Rattle.hox_stream.specs.Lanes.{TakesIn};
+ghost use Rattle.hox_stream.specs.Views.{fresh_table};
 ghost use Rattle.hox_stream.specs.Tables.{EndsRows, FlushesTable, IsTableFault, WritesRows, WritesTable, lane_at, only_at};
 
 use crate::lane::Lane;
@@ -66,7 +67,7 @@ impl<S: Sink + Drop> TableOutlet<S> {
         lanes: Vec<Lane>,
         sink: S,
     ) -> Result<TableOutlet<S>, AllocError>
-        ensures { IfOk result (λ o. o ≡ record { table = table; lanes = lanes.items; contents = (S.seen sink).contents; waiting = []; has_failed = false }) }
+        ensures { IfOk result (λ o. o ≡ fresh_table table lanes.items (S.seen sink).contents) }
     {
         let row = Vec::with_capacity(alloc, lanes.len())?;
         let waiting = Vec::with_capacity(alloc, ROOM)?;

@@ -1,11 +1,8 @@
 //! Moves tokens from the channels into tables.
-ghost use Rattle.std.specs.Prelude.{◌≡◌, ◌<◌, ℕ, false, IfErr, List, [], length};
-ghost use Rattle.kpn_model.specs.Network.{Family};
+ghost use Rattle.std.specs.Prelude.{◌<◌, false, IfErr, length};
 ghost use Rattle.kpn_model.specs.Families.{family};
-ghost use Rattle.kpn_flow.specs.Flows.{FlowView};
-ghost use Rattle.hox_stream.specs.Streams.{AllTablesStay, IsFinish, Streams, TablesEnd, TellsTable, TellsTables, table_at};
-ghost use Rattle.hox_stream.specs.Tables.{IsTableFault, TellsColumn};
-ghost use Rattle.hox_stream.specs.Views.{InletView, OutletView, TableView, outs};
+ghost use Rattle.hox_stream.specs.Streams.{AllTablesStay, TablesEnd, TellsTable, TellsTables, AreTablesWritten, EndsForFault, EndsForTables, TablesStream};
+ghost use Rattle.hox_stream.specs.Tables.{TellsColumn};
 
 use crate::finish::StreamFinish;
 use crate::table::{TableFault, TableOutlet};
@@ -40,7 +37,7 @@ fn tell_lane<B: Body, S: Sink>(
 
 /// Returns why a stream ends when table `k` has this fault, after `first` sinks.
 fn finish_of(fault: TableFault, first: usize, k: usize) -> StreamFinish
-    ensures { (kinds : Family) (s : FlowView) (ins : List InletView) (sinks : List OutletView) (tables : List TableView) → length sinks ≡ first → k < length tables → IsTableFault (table_at tables k) fault → IsFinish kinds s ins (outs sinks tables) result }
+    ensures { EndsForFault first k fault result }
 {
     let Some(place) = first.checked_add(k) else {
         return StreamFinish::Memory;
@@ -93,10 +90,10 @@ pub(crate) fn flush_tables<S: Sink>(
     tables: &mut [TableOutlet<S>],
     first: usize,
 ) -> Result<(), StreamFinish>
-    ensures streams { (kinds : Family) (s : FlowView) (ins : List InletView) (sinks : List OutletView) → Streams kinds s s ins ins (outs sinks tables.old) (outs sinks tables.new) }
-    ensures written { (k : ℕ) → k < length tables.new → (table_at tables.new k).has_failed ≡ false → (table_at tables.new k).waiting ≡ [] }
+    ensures streams { TablesStream tables.old tables.new }
+    ensures written { AreTablesWritten tables.new }
     ensures still { AllTablesStay tables.old tables.new }
-    ensures finish { IfErr result (λ f. (kinds : Family) (s : FlowView) (ins : List InletView) (sinks : List OutletView) → length sinks ≡ first → IsFinish kinds s ins (outs sinks tables.new) f) }
+    ensures finish { IfErr result (EndsForTables first tables.new) }
 {
     let mut failed = None;
     for k in 0..tables.len() {

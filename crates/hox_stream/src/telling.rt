@@ -1,11 +1,8 @@
 //! Moves tokens from the channels into their sinks.
-ghost use Rattle.std.specs.Prelude.{◌≡◌, ◌<◌, ℕ, true, false, IfErr, List, [], length};
-ghost use Rattle.kpn_model.specs.Network.{Family};
+ghost use Rattle.std.specs.Prelude.{true, false, IfErr};
 ghost use Rattle.kpn_model.specs.Families.{family};
-ghost use Rattle.kpn_flow.specs.Flows.{FlowView};
 ghost use Rattle.hox_stream.specs.Ports.{TellsSink};
-ghost use Rattle.hox_stream.specs.Streams.{AllFaultsStay, AllStay, AreWritten, IsFinish, OutsEnd, Streams, TellsOuts, TellsSinks, outlet_at};
-ghost use Rattle.hox_stream.specs.Views.{InletView, TableView, outs};
+ghost use Rattle.hox_stream.specs.Streams.{AllFaultsStay, AllStay, AreWritten, OutsEnd, TellsOuts, TellsSinks, AreSinksWritten, EndsForOuts, EndsForSinks, OutsStream, SinksStream};
 
 use crate::finish::StreamFinish;
 use crate::outlet::{Outlet, WriteFault};
@@ -59,10 +56,10 @@ fn tell_sinks<B: Body, S: Sink>(
 
 /// Writes what waits, for each sink, even if another one fails. Returns why the stream ends if one fails.
 fn flush_sinks<S: Sink>(outlets: &mut [Outlet<S>]) -> Result<(), StreamFinish>
-    ensures streams { (kinds : Family) (s : FlowView) (ins : List InletView) (tables : List TableView) → Streams kinds s s ins ins (outs outlets.old tables) (outs outlets.new tables) }
-    ensures written { (k : ℕ) → k < length outlets.new → (outlet_at outlets.new k).has_failed ≡ false → (outlet_at outlets.new k).waiting ≡ [] }
+    ensures streams { SinksStream outlets.old outlets.new }
+    ensures written { AreSinksWritten outlets.new }
     ensures still { AllFaultsStay outlets.old outlets.new }
-    ensures finish { IfErr result (λ f. (kinds : Family) (s : FlowView) (ins : List InletView) (tables : List TableView) → IsFinish kinds s ins (outs outlets.new tables) f) }
+    ensures finish { IfErr result (EndsForSinks outlets.new) }
 {
     let mut failed = None;
     for k in 0..outlets.len() {
@@ -111,10 +108,10 @@ impl<S: Sink> Outs<S> {
     /// Writes what waits and the full rows, for each sink, even if another one fails. Returns why the stream
     /// ends if one fails.
     pub(crate) fn flush_all(&mut self) -> Result<(), StreamFinish>
-        ensures streams { (kinds : Family) (s : FlowView) (ins : List InletView) → Streams kinds s s ins ins self.old self.new }
+        ensures streams { OutsStream self.old self.new }
         ensures written { AreWritten self.new }
         ensures still { AllStay self.old self.new }
-        ensures finish { IfErr result (λ f. (kinds : Family) (s : FlowView) (ins : List InletView) → IsFinish kinds s ins self.new f) }
+        ensures finish { IfErr result (EndsForOuts self.new) }
     {
         let first = self.sinks.len();
         let sinks = flush_sinks(self.sinks.as_mut_slice());

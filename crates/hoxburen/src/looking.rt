@@ -1,9 +1,6 @@
 //! How a flow stands, and how full its channels are.
-ghost use Rattle.std.specs.Prelude.{◌≡◌, option_map, slice_get};
-ghost use Rattle.kpn_flow.specs.Flows.{fill};
-ghost use Rattle.kpn_flow.specs.Waits.{holds_up, starves};
-ghost use Rattle.hox_handle.specs.Sessions.{may_feed};
-ghost use Rattle.hoxburen.specs.Calls.{IsReported, LooksAt, TellsFill, TellsFlag, TellsVerdict};
+ghost use Rattle.std.specs.Prelude.{◌≡◌};
+ghost use Rattle.hoxburen.specs.Calls.{LooksAt, ReportsFlow, TellsEntries, TellsFill, TellsFlag, TellsHoldsUp, TellsInputFill, TellsMayFeed, TellsOutputFill, TellsStarves, TellsVerdict};
 
 use crate::handle::HoxFlow;
 use hox_handle::{ReturnCode, copy_out, pause_number};
@@ -18,7 +15,7 @@ pub extern "C" fn hox_may_feed(
     input: usize,
     may: &mut u32,
 ) -> u32
-    ensures { LooksAt flow.old.kept flow.new.kept result (may.new ≡ 0) (λ s. TellsFlag (option_map (may_feed s) (slice_get s.inputs input)) may.new result) }
+    ensures { TellsMayFeed flow.old.kept flow.new.kept result input may.new }
 {
     *may = 0;
     match flow.take(alloc) {
@@ -39,7 +36,7 @@ pub extern "C" fn hox_waits_for_input(
     input: usize,
     waits: &mut u32,
 ) -> u32
-    ensures { LooksAt flow.old.kept flow.new.kept result (waits.new ≡ 0) (λ s. TellsFlag (option_map (starves s.network s.standings) (slice_get s.inputs input)) waits.new result) }
+    ensures { TellsStarves flow.old.kept flow.new.kept result input waits.new }
 {
     *waits = 0;
     match flow.take(alloc) {
@@ -60,7 +57,7 @@ pub extern "C" fn hox_waits_for_output(
     output: usize,
     waits: &mut u32,
 ) -> u32
-    ensures { LooksAt flow.old.kept flow.new.kept result (waits.new ≡ 0) (λ s. TellsFlag (option_map (holds_up s.network s.standings) (slice_get s.outputs output)) waits.new result) }
+    ensures { TellsHoldsUp flow.old.kept flow.new.kept result output waits.new }
 {
     *waits = 0;
     match flow.take(alloc) {
@@ -97,7 +94,7 @@ pub extern "C" fn hox_input_fill(
     held: &mut u64,
     capacity: &mut u64,
 ) -> u32
-    ensures { LooksAt flow.old.kept flow.new.kept result ((held.new ≡ 0) × (capacity.new ≡ 0)) (λ s. TellsFill (option_map (fill s) (slice_get s.inputs input)) held.new capacity.new result) }
+    ensures { TellsInputFill flow.old.kept flow.new.kept result input held.new capacity.new }
 {
     *held = 0;
     *capacity = 0;
@@ -120,7 +117,7 @@ pub extern "C" fn hox_output_fill(
     held: &mut u64,
     capacity: &mut u64,
 ) -> u32
-    ensures { LooksAt flow.old.kept flow.new.kept result ((held.new ≡ 0) × (capacity.new ≡ 0)) (λ s. TellsFill (option_map (fill s) (slice_get s.outputs output)) held.new capacity.new result) }
+    ensures { TellsOutputFill flow.old.kept flow.new.kept result output held.new capacity.new }
 {
     *held = 0;
     *capacity = 0;
@@ -159,7 +156,7 @@ pub extern "C" fn hox_entries(
     entries: &mut u64,
     growths: &mut u64,
 ) -> u32
-    ensures { LooksAt flow.old.kept flow.new.kept result ((entries.new ≡ 0) × (growths.new ≡ 0)) (λ s. (entries.new ≡ s.counts.entries) × (growths.new ≡ s.counts.growths) × (result ≡ 0)) }
+    ensures { TellsEntries flow.old.kept flow.new.kept result entries.new growths.new }
 {
     *entries = 0;
     *growths = 0;
@@ -197,7 +194,7 @@ pub extern "C" fn hox_report(
     report: &mut [u8],
     length: &mut usize,
 ) -> u32
-    ensures { LooksAt flow.old.kept flow.new.kept result ((length.new ≡ 0) × (report.new ≡ report.old)) (λ s. IsReported s report.old report.new length.new result) }
+    ensures { ReportsFlow flow.old.kept flow.new.kept result report.old report.new length.new }
 {
     *length = 0;
     match flow.take(alloc) {

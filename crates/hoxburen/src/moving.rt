@@ -1,6 +1,6 @@
 //! Feeds, runs and drains a flow.
 ghost use Rattle.std.specs.Prelude.{◌≡◌, ⊤};
-ghost use Rattle.hoxburen.specs.Calls.{Advances, DrainsWords, EndsInput, FeedsWords, OnFlow};
+ghost use Rattle.hoxburen.specs.Calls.{Advances, DrainsFlow, EndsInput, FeedsFlow, OnFlow};
 
 use crate::handle::HoxFlow;
 use hox_handle::{ReturnCode, pause_number};
@@ -15,7 +15,7 @@ pub extern "C" fn hox_feed(
     words: &[u64],
     fed: &mut usize,
 ) -> u32
-    ensures { OnFlow flow.old.kept flow.new.kept result (fed.new ≡ 0) (λ s t. FeedsWords s t input words.now fed.new result) }
+    ensures { FeedsFlow flow.old.kept flow.new.kept result input words.now fed.new }
 {
     *fed = 0;
     match flow.take(alloc) {
@@ -55,7 +55,7 @@ pub extern "C" fn hox_drain(
     words: &mut [u64],
     drained: &mut usize,
 ) -> u32
-    ensures { OnFlow flow.old.kept flow.new.kept result ((drained.new ≡ 0) × (words.new ≡ words.old)) (λ s t. DrainsWords s t output words.old words.new drained.new result) }
+    ensures { DrainsFlow flow.old.kept flow.new.kept result output words.old words.new drained.new }
 {
     *drained = 0;
     match flow.take(alloc) {

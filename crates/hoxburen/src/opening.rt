@@ -2,7 +2,7 @@
 ghost use Rattle.std.specs.Prelude.{◌≡◌, None, IfErr, IfNone, IfOk, IfSome};
 ghost use Rattle.hox_handle.specs.Answers.{answer_number};
 ghost use Rattle.hox_handle.specs.Opening.{IsSessionFault, Opens};
-ghost use Rattle.hoxburen.specs.Calls.{close_number, FindsPlace, IsMessage, LooksAt, OpensFlow};
+ghost use Rattle.hoxburen.specs.Calls.{close_number, FindsInput, FindsOutput, IsMessage, OpensFlow};
 
 use crate::handle::HoxFlow;
 use crate::slices::bytes_of;
@@ -86,7 +86,7 @@ pub extern "C" fn hox_input(
     name: &[u8],
     input: &mut usize,
 ) -> u32
-    ensures { LooksAt flow.old.kept flow.new.kept result (input.new ≡ 0) (λ s. FindsPlace s.network s.inputs name.now input.new result) }
+    ensures { FindsInput flow.old.kept flow.new.kept result name.now input.new }
 {
     *input = 0;
     match flow.take(alloc) {
@@ -107,7 +107,7 @@ pub extern "C" fn hox_output(
     name: &[u8],
     output: &mut usize,
 ) -> u32
-    ensures { LooksAt flow.old.kept flow.new.kept result (output.new ≡ 0) (λ s. FindsPlace s.network s.outputs name.now output.new result) }
+    ensures { FindsOutput flow.old.kept flow.new.kept result name.now output.new }
 {
     *output = 0;
     match flow.take(alloc) {

@@ -11,9 +11,13 @@ use Rattle.kpn_args.specs.declared.arguments.WordsFault.{WordsFault}
 use Rattle.kpn_args.specs.declared.arguments.WordsFault.TheVariants.{Parser, Workers}
 use Rattle.kpn_args.specs.Command.{kpn}
 
+-- the digits of the text say this number
+abbrev pub HasValue : Text → ℕ → Type 0
+HasValue text n = digits_value 10 (without_leading_plus text) ≡ n
+
 -- the text is read as this number of workers
 abbrev pub ReadsWorkers : Text → ℕ → Type 0
-ReadsWorkers text n = IsNumeral 10 (without_leading_plus text) × (digits_value 10 (without_leading_plus text) ≡ n) × (1 ≤ n) × (n ≤ MAX_WORKERS)
+ReadsWorkers text n = IsNumeral 10 (without_leading_plus text) × HasValue text n × (1 ≤ n) × (n ≤ MAX_WORKERS)
 
 abbrev pub IsWorkers : Text → Option ℕ → Type 0
 IsWorkers text (Some n) = ReadsWorkers text n
@@ -29,12 +33,16 @@ abbrev pub IsRefusedWorkers : Option Text → Type 0
 IsRefusedWorkers None = ⊥
 IsRefusedWorkers (Some text) = IsWorkers text None
 
+-- the number of workers that the entries ask for
+abbrev pub AsksForWorkers : List Row → ℕ → Type 0
+AsksForWorkers rows workers = WorkersFrom (first_of (codes "workers") rows) workers
+
 -- the choice is what a command and its entries ask for
 abbrev pub IsChoiceOf : Option (Text × List Row) → Choice → Type 0
 IsChoiceOf None choice = ⊥
 IsChoiceOf (Some p) Check = p.0 ≡ codes "check"
 IsChoiceOf (Some p) (Run workers show) =
-    (p.0 ≡ codes "run") × WorkersFrom (first_of (codes "workers") p.1) workers × (option_map (λ s. s.now) show ≡ first_of (codes "show") p.1)
+    (p.0 ≡ codes "run") × AsksForWorkers p.1 workers × (option_map (λ s. s.now) show ≡ first_of (codes "show") p.1)
 
 abbrev pub HasFewWorkers : Choice → Type 0
 HasFewWorkers Check = Unit {0}
@@ -44,6 +52,10 @@ HasFewWorkers (Run workers show) = (1 ≤ workers) × (workers ≤ MAX_WORKERS)
 abbrev pub HasRefusedWorkers : Option (Text × List Row) → Type 0
 HasRefusedWorkers None = ⊥
 HasRefusedWorkers (Some p) = IsRefusedWorkers (first_of (codes "workers") p.1)
+
+-- the fault is that the text of `--workers` in the entries is no number of workers
+abbrev pub RefusesWorkers : List Row → WordsFault → Type 0
+RefusesWorkers rows e = (e ≡ Workers) × IsRefusedWorkers (first_of (codes "workers") rows)
 
 -- the command line accepts the arguments
 abbrev pub AreTaken : List Text → Type 0
@@ -67,7 +79,11 @@ abbrev pub asks_for_help : WordsFault → Bool
 asks_for_help (Parser e) = is_text_asked_for (kind_of e)
 asks_for_help Workers = false
 
+-- where the user finds more
+abbrev pub run_help_hint : Text
+run_help_hint = codes "\n\nFor more information, try 'kpn run --help'.\n"
+
 -- the text for the user, if it is not clap's own
 abbrev pub text_of : WordsFault → Option Text
 text_of (Parser e) = None
-text_of Workers = Some (codes "error: --workers takes a number from 1 to " ++ (decimal MAX_WORKERS ++ codes "\n\nFor more information, try 'kpn run --help'.\n"))
+text_of Workers = Some (codes "error: --workers takes a number from 1 to " ++ (decimal MAX_WORKERS ++ run_help_hint))

@@ -14,7 +14,9 @@ run_command = with_rule (with_rule (new_app (codes "run")) (option_rule (codes "
 
 -- it has a version, requires a subcommand, and has none called `help`
 abbrev pub bare_command : App
-bare_command = let a = new_app (codes "kpn") in record a { top = record a.top { has_version = true; disable_help_subcommand = true; subcommand_required = true } }
+bare_command =
+    let a = new_app (codes "kpn") in
+    record a { top = record a.top { has_version = true; disable_help_subcommand = true; subcommand_required = true } }
 
 abbrev pub kpn : App
 kpn = with_subcommand (with_subcommand bare_command check_command.top) run_command.top

@@ -1,9 +1,9 @@
 //! The arguments of the command line.
 ghost use Rattle.std.specs.Prelude.{◌≡◌, ◌⊎◌, IfOk, IfErr, Some, false, map, codes, if◌then◌else◌};
-ghost use Rattle.clap.specs.Words.{FailsBy, app_of, fault_of, first_of, found_of, rows_of, subcommand_of, subcommand_rows_of};
+ghost use Rattle.clap.specs.Words.{FailsBy, app_of, fault_of, found_of, rows_of, subcommand_of, subcommand_rows_of};
 ghost use Rattle.kpn_args.specs.Command.{kpn, bare_command, check_command, run_command};
 ghost use Rattle.kpn_args.specs.Made.{IsLocal, Makes, MakesLocal};
-ghost use Rattle.kpn_args.specs.Choices.{IsRefusedWorkers, HasFewWorkers, IsChoice, IsChoiceOf, IsWordsFault, asks_for_help};
+ghost use Rattle.kpn_args.specs.Choices.{HasFewWorkers, IsChoice, IsChoiceOf, IsWordsFault, asks_for_help, RefusesWorkers};
 
 use crate::entries::{subcommand_in, text_in, workers_in};
 use crate::making::{bare, option, with_arg, with_subcommand};
@@ -158,7 +158,7 @@ pub fn read_words<'a>(alloc: Global, words: &'a [&'a str]) -> Result<Choice<'a>,
 fn choice_of<'a>(name: &str, entries: &ArgMatches<'a>) -> Result<Choice<'a>, WordsFault>
     requires { (name.now ≡ codes "check") ⊎ (name.now ≡ codes "run") }
     ensures ok { IfOk result (IsChoiceOf (Some (name.now, rows_of (found_of entries.now)))) }
-    ensures workers { IfErr result (λ e. (e ≡ WordsFault.Workers) × IsRefusedWorkers (first_of (codes "workers") (rows_of (found_of entries.now)))) }
+    ensures workers { IfErr result (RefusesWorkers (rows_of (found_of entries.now))) }
 {
     match name {
         "check" => Ok(Choice::Check),

@@ -1,9 +1,9 @@
 //! Makes a command line one argument or subcommand at a time, passing an error on to the end, where the
 //! caller sees it.
 ghost use Rattle.std.specs.Prelude.{◌≡◌, false};
-ghost use Rattle.clap.specs.Words.{App, Rule, new_app, rule_of, with_rule, with_subcommand};
+ghost use Rattle.clap.specs.Words.{new_app, rule_of, with_subcommand};
 ghost use Rattle.kpn_args.specs.Command.{option_rule};
-ghost use Rattle.kpn_args.specs.Made.{IsLocal, Makes, MakesLocal};
+ghost use Rattle.kpn_args.specs.Made.{IsLocal, AddsRule, AddsSubcommand};
 
 use clap::{Arg, Command};
 use std::alloc::{AllocError, Global};
@@ -16,7 +16,7 @@ pub fn with_arg<'a>(
     arg: Arg<'a>,
 ) -> Result<Command<'a>, AllocError>
     requires { arg.global ≡ false }
-    ensures { (app : App) (rule : Rule) → MakesLocal app command.entry → rule_of arg.entry ≡ rule → MakesLocal (with_rule app rule) result }
+    ensures { AddsRule command.entry (rule_of arg.entry) result }
 {
     command?.arg(arg)
 }
@@ -28,7 +28,7 @@ pub fn with_subcommand<'a>(
     command: Result<Command<'a>, AllocError>,
     subcommand: Result<Command<'a>, AllocError>,
 ) -> Result<Command<'a>, AllocError>
-    ensures { (app below : App) → Makes app command.entry → MakesLocal below subcommand.entry → Makes (with_subcommand app below.top) result }
+    ensures { AddsSubcommand command.entry subcommand.entry result }
 {
     command?.subcommand(subcommand?)
 }

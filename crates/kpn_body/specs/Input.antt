@@ -28,8 +28,9 @@ pub record IsAskedLocal (admits : Admits) (asked : Input) (l : List ℕ) : Type 
   pub local : l ≡ asked.local
   pub admitted : admits asked.card asked.local asked.last
 
--- the family's answer to an admitted input of a card with a signature
-pub record IsAnswerTo (signature : Card → Option Signature) (admits : Admits) (family : Family) (asked : Input) (answer : Answer) : Type 0 where
-  pub signed : IsSome (signature asked.card)
-  pub admitted : admits asked.card asked.local asked.last
-  pub is : answer ≡ answer_to family asked
+module _ (signature : Card → Option Signature) (admits : Admits) where
+  -- the family's answer to an admitted input of a card with a signature
+  pub record IsAnswerTo (family : Family) (asked : Input) (answer : Answer) : Type 0 where
+    pub signed : IsSome (signature asked.card)
+    pub admitted : admits asked.card asked.local asked.last
+    pub is : answer ≡ answer_to family asked

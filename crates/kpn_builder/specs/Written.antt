@@ -15,10 +15,15 @@ use Rattle.kpn_sketch.specs.declared.sketch.ProcessSketch.{ProcessSketch}
 use Rattle.kpn_sketch.specs.declared.sketch.ChannelSketch.{ChannelSketch}
 use Rattle.kpn_sketch.specs.declared.sketch.Sketch.{Sketch}
 
+-- the members from the first on, with one more before it, in its place or after it; `later` has it after the first
+abbrev pub placed_member : List ℕ → Data → List ℕ → Data → Members → Members → Members
+placed_member k d l e ms later =
+    match_ordering (slice_cmp nat_cmp k l) (member k d (member l e ms)) (member l d ms) (member l e later)
+
 -- the table with one more member, in the order of the keys
 abbrev pub with_member : List ℕ → Data → Members → Members
 with_member k d no_members = member k d no_members
-with_member k d (member l e ms) = match_ordering (slice_cmp nat_cmp k l) (member k d (member l e ms)) (member l d ms) (member l e (with_member k d ms))
+with_member k d (member l e ms) = placed_member k d l e ms (with_member k d ms)
 
 -- a word by its value is written in two's complement
 abbrev pub token_value : TokenSketch → Data
@@ -30,19 +35,34 @@ abbrev pub sort_value : Sort → Data
 sort_value Words = string (codes "words")
 sort_value Flags = string (codes "flags")
 
+-- the arguments, and the kind with the name
+abbrev pub args_value : ProcessSketch → Data
+args_value p = array (items_of (map integer p.args))
+
+abbrev pub kind_members : ProcessSketch → Members
+kind_members p = member (codes "kind") (string p.kind) (member (codes "name") (string p.name) no_members)
+
 abbrev pub process_value : ProcessSketch → Data
-process_value p = table (member (codes "args") (array (items_of (map integer p.args))) (member (codes "kind") (string p.kind) (member (codes "name") (string p.name) no_members)))
+process_value p = table (member (codes "args") (args_value p) (kind_members p))
+
+-- the start tokens
+abbrev pub tokens_members : ChannelSketch → Members
+tokens_members c = member (codes "tokens") (array (items_of (map token_value c.tokens))) no_members
 
 -- only version 2 has start tokens
 abbrev pub last_members : Bool → ChannelSketch → Members
-last_members two c = member (codes "to") (string c.to) (if two then member (codes "tokens") (array (items_of (map token_value c.tokens))) no_members else no_members)
+last_members two c = member (codes "to") (string c.to) (if two then tokens_members c else no_members)
+
+-- the sort, and what follows it
+abbrev pub sort_members : Bool → ChannelSketch → Members
+sort_members two c = member (codes "sort") (sort_value c.sort) (last_members two c)
 
 abbrev pub channel_value : Bool → ChannelSketch → Data
 channel_value two c = table (
     member (codes "capacity") (integer c.capacity) (
     member (codes "from") (string c.from) (
     member (codes "in") (integer c.input) (
-    member (codes "name") (string c.name) (member (codes "out") (integer c.out) (member (codes "sort") (sort_value c.sort) (last_members two c)))
+    member (codes "name") (string c.name) (member (codes "out") (integer c.out) (sort_members two c))
     )
     )
     )
@@ -74,6 +94,10 @@ is_said (Word w) = false
 abbrev pub has_said_tokens : ChannelSketch → Bool
 has_said_tokens c = list_all is_said c.tokens
 
+-- the step is 1, and no channel has start tokens
+abbrev pub suits_version_one : Sketch → Bool
+suits_version_one s = int_eq s.step (pos 1) && list_all has_no_tokens s.channels
+
 -- in version 2 if no start token is a word by its value, in others with a step of 1 and no start tokens
 abbrev pub is_describable : Sketch → Bool
-is_describable s = if is_two s.version then list_all has_said_tokens s.channels else int_eq s.step (pos 1) && list_all has_no_tokens s.channels
+is_describable s = if is_two s.version then list_all has_said_tokens s.channels else suits_version_one s

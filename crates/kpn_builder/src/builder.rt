@@ -1,13 +1,12 @@
 //! Builds a description.
-ghost use Rattle.std.specs.Prelude.{◌≡◌, ◌≢◌, ◌↔◌, ◌++◌, ◌∷◌, [], false, pos, Some, None, Err, IfOk, IfErr, string_bytes};
+ghost use Rattle.std.specs.Prelude.{◌≡◌, ◌↔◌, [], false, pos, Err, IfOk, IfErr, string_bytes};
 ghost use Rattle.std.specs.List.{list_all};
 ghost use Rattle.kpn_model.specs.Valid.{IsValid};
 ghost use Rattle.kpn_model.specs.declared.limits.TheConstants.{DEFAULT_BUDGET};
 ghost use Rattle.kpn_sketch.specs.Description.{Describes};
-ghost use Rattle.kpn_net.specs.Faults.{first_fault};
-ghost use Rattle.kpn_net.specs.Sketched.{net_of};
+ghost use Rattle.kpn_net.specs.Sketched.{IsNetOfSketch, IsSketchFault};
 ghost use Rattle.kpn_message.specs.EveryFault.{IsMessage};
-ghost use Rattle.kpn_builder.specs.Built.{GrowsTo, channel_of, process_of};
+ghost use Rattle.kpn_builder.specs.Built.{GrowsTo, channel_of, process_of, blank_sketch, adding_channel, adding_process};
 ghost use Rattle.kpn_builder.specs.Written.{has_said_tokens};
 
 use crate::text::{TextFault, to_toml};
@@ -165,7 +164,7 @@ impl Builder {
     /// let mut made = Builder::new(alloc);
     /// ```
     pub fn new(alloc: Global) -> Builder
-        ensures { result ≡ record { version = pos 2; budget = pos DEFAULT_BUDGET; step = pos 1; processes = []; channels = [] } }
+        ensures { result ≡ blank_sketch }
     {
         Builder {
             alloc,
@@ -207,7 +206,7 @@ impl Builder {
     /// made.process("src", "count", &[1, 8])?;
     /// ```
     pub fn process(&mut self, name: &str, kind: &str, args: &[i64]) -> Result<(), AllocError>
-        ensures { GrowsTo (record self.old { processes = self.old.processes ++ process_of name.now kind.now args.now ∷ [] }) self.old self.new result }
+        ensures { GrowsTo (adding_process self.old (process_of name.now kind.now args.now)) self.old self.new result }
     {
         let process = process_in(self.alloc, name, kind, args)?;
         self.sketch.processes.push(process)
@@ -219,7 +218,7 @@ impl Builder {
     /// made.channel(NewChannel::new("x", "src", "x3").capacity(4))?;
     /// ```
     pub fn channel(&mut self, channel: NewChannel<'_>) -> Result<(), AllocError>
-        ensures { GrowsTo (record self.old { channels = self.old.channels ++ channel_of channel.entry ∷ [] }) self.old self.new result }
+        ensures { GrowsTo (adding_channel self.old (channel_of channel.entry)) self.old self.new result }
     {
         let channel = channel.to_sketch(self.alloc)?;
         self.sketch.channels.push(channel)
@@ -240,9 +239,9 @@ impl Builder {
     /// Ok(made.check()?)
     /// ```
     pub fn check<K: Kinds>(&self) -> Result<Net<K>, NetFault>
-        ensures ok { IfOk result (λ n. (first_fault K.named K.signature self.now ≡ None) × (n ≡ net_of K.named self.now)) }
+        ensures ok { IfOk result (IsNetOfSketch K.named K.signature self.now) }
         ensures valid { IfOk result (IsValid K.signature) }
-        ensures fault { IfErr result (λ e. e ≢ NetFault.Memory → first_fault K.named K.signature self.now ≡ Some e) }
+        ensures fault { IfErr result (IsSketchFault K.named K.signature self.now) }
     {
         Net::<K>::check(self.alloc, &self.sketch)
     }

@@ -1,12 +1,12 @@
 -- What may be done with an answer to a coherent core, and what comes of it.
-use Rattle.std.specs.Prelude.{◌≡◌, ◌↔◌, ◌<◌, ◌≤◌, ◌+◌, ℕ, Bool, true, false, List, Option, Some, length, set}
+use Rattle.std.specs.Prelude.{◌≡◌, ◌↔◌, ◌<◌, ◌≤◌, ◌+◌, ℕ, Bool, true, false, List, Option, Some, None, length, set}
 use Rattle.std.specs.List.{list_any}
 use Rattle.kpn_model.specs.declared.kinds.Answer.{Answer}
 use Rattle.kpn_model.specs.Network.{Family, Network, Admits}
 use Rattle.kpn_model.specs.declared.history.Deed.{Deed}
 use Rattle.kpn_model.specs.declared.history.Entry.TheVariants.{Did}
 use Rattle.kpn_model.specs.declared.history.End.{End}
-use Rattle.kpn_model.specs.Semantics.{wants, IsDeed, after_deed}
+use Rattle.kpn_model.specs.Semantics.{wants, IsDeed, IsPossible, after_deed}
 use Rattle.kpn_state.specs.StateAndHistory.{more}
 use Rattle.kpn_state.specs.declared.standing.Standing.{Standing}
 use Rattle.kpn_state.specs.declared.standing.Standing.TheVariants.{Ready, Parked}
@@ -17,7 +17,7 @@ use Rattle.kpn_commit.specs.declared.resolution.Resolution.{Resolution}
 use Rattle.kpn_commit.specs.declared.outcome.Outcome.{Outcome}
 use Rattle.kpn_commit.specs.Coherent.{IsCoherent, IsCoherentBut}
 use Rattle.kpn_commit.specs.Waiting.{AreWaiting}
-use Rattle.kpn_commit.specs.Reactions.{Reacts}
+use Rattle.kpn_commit.specs.Reactions.{Reacts, CannotGoOn}
 use Rattle.kpn_commit.specs.Resolving.{Resolves}
 use Rattle.kpn_commit.specs.Works.{Works}
 
@@ -28,6 +28,29 @@ made_ready core p = record core { standings = set core.standings p Ready }
 pub record KeepsStanding (standings moved : List Standing) (p : ℕ) : Type 0 where
   pub stays : standing moved p ≡ standing standings p
   pub many : length moved ≡ length standings
+
+module _ {H : Type 0} (kinds : Family) (net : Network) where
+  -- p can't read or write as this answer says
+  abbrev pub CannotDo : Core H → ℕ → Answer → Type 0
+  CannotDo core p a = IsPossible kinds net core.store.state p a.act → ⊥
+
+  -- p is not parked, or can't do what it answered
+  abbrev pub CannotResume : Core H → ℕ → Type 0
+  CannotResume core p = (a : Answer) → standing core.standings p ≡ Parked a → CannotDo core p a
+
+  -- p can't go on as it answered, if the budget has room for three more entries
+  abbrev pub CannotGoOnInBudget : Core H → ℕ → Answer → Type 0
+  CannotGoOnInBudget core p a = length core.store.history + 2 < net.budget → CannotGoOn kinds net core.store.state p a
+
+  -- the answer is worked on, with p then made ready, and the run has not ended
+  abbrev pub WorksOnReady : Core H → ℕ → Answer → Core H → Outcome → Type 0
+  WorksOnReady core p a moved outcome =
+      Works kinds net core.store core.standings p a outcome moved.store (set moved.standings p Ready) None
+
+  -- the run of the core goes on or ends as it must
+  abbrev pub ResolvesCore : Core H → Resolution → Core H → Type 0
+  ResolvesCore core resolution moved =
+      Resolves kinds net core.store core.standings resolution moved.store moved.standings
 
 module _ {H : Type 0} (kinds : Family) (admits : Admits) (net : Network) where
   -- p, ready or out, has answered what it wants, and there is room for this many entries
@@ -50,16 +73,21 @@ module _ {H : Type 0} (kinds : Family) (admits : Admits) (net : Network) where
     pub reacts : Reacts kinds net core.store core.standings p a reaction moved.store moved.standings
     pub coherent : IsCoherent kinds admits net moved
 
+  -- the answer has its effect, with p then made ready
+  abbrev pub ReactsOn : Core H → ℕ → Answer → Core H → Reaction → Type 0
+  ReactsOn core p a moved reaction = ReactsTo core p a reaction (made_ready moved p)
+
   -- the answer, given in place, has its effect, and is_ready says whether p is ready still
   pub record ReactsInPlace (core : Core H) (p : ℕ) (a : Answer) (is_ready : Bool) (moved : Core H) : Type 0 where
     pub reacts : (r : Reaction) × Reacts kinds net core.store core.standings p a r moved.store moved.standings
     pub ready : is_ready ≡ true ↔ standing moved.standings p ≡ Ready
     pub coherent : IsCoherent kinds admits net moved
 
-  -- the answer is worked on, and no parked process can continue
-  pub record WorksTo (core : Core H) (p : ℕ) (a : Answer) (outcome : Outcome) (end : Option End) (moved : Core H) : Type 0 where
-    pub works : Works kinds net core.store core.standings p a outcome moved.store moved.standings end
-    pub coherent : IsCoherent kinds admits net moved
+  module _ (core : Core H) (p : ℕ) (a : Answer) where
+    -- the answer is worked on, and no parked process can continue
+    pub record WorksTo (outcome : Outcome) (end : Option End) (moved : Core H) : Type 0 where
+      pub works : Works kinds net core.store core.standings p a outcome moved.store moved.standings end
+      pub coherent : IsCoherent kinds admits net moved
 
   -- there is room for one entry, and no other parked process than p can continue
   pub record MayResume (core : Core H) (p : ℕ) : Type 0 where

@@ -24,13 +24,21 @@ awaited_by net p Stopped = None
 abbrev pub awaited : Network → List Standing → ℕ → Option ℕ
 awaited net standings p = awaited_by net p (standing standings p)
 
+-- p waits to write to c
+abbrev pub AwaitsRoom : Network → List Standing → ℕ → ℕ → Type 0
+AwaitsRoom net standings p c = awaited net standings p ≡ Some c
+
 abbrev pub IsNoLater : State → ℕ → ℕ → Type 0
 IsNoLater M c d = (capacity M c < capacity M d) ⊎ ((capacity M c ≡ capacity M d) × (c ≤ d))
+
+-- no process waits to write to a channel that would grow before c
+abbrev pub NoneIsEarlier : Network → State → List Standing → ℕ → Type 0
+NoneIsEarlier net M standings c = (q d : ℕ) → AwaitsRoom net standings q d → IsNoLater M c d
 
 -- no process waits to write; or this one does, to the smallest such channel, of equals the lowest
 abbrev pub IsSmallest : Network → State → List Standing → Option (ℕ × ℕ) → Type 0
 IsSmallest net M standings None = (q : ℕ) → awaited net standings q ≡ None
-IsSmallest net M standings (Some best) = (awaited net standings best.1 ≡ Some best.0) × ((q d : ℕ) → awaited net standings q ≡ Some d → IsNoLater M best.0 d)
+IsSmallest net M standings (Some best) = AwaitsRoom net standings best.1 best.0 × NoneIsEarlier net M standings best.0
 
 abbrev pub with_writer : Network → ℕ × ℕ → ℕ × ℕ
 with_writer net x = (x.1, (channel_of net x.1).writer)
@@ -49,8 +57,9 @@ waits_to_write Out = false
 waits_to_write (Parked a) = is_write a.act
 waits_to_write Stopped = false
 
--- exactly the candidates, no more than processes that wait to write, and room for one of each process
-pub record AreCandidates (net : Network) (M : State) (standings : List Standing) (candidates : CandidateList) : Type 0 where
-  pub each : (x : ℕ × ℕ) → Contains candidates.pairs x ↔ IsCandidate net M standings x
-  pub few : length candidates.pairs ≤ count_by waits_to_write standings
-  pub room : length standings ≤ candidates.limit
+module _ (net : Network) (M : State) (standings : List Standing) where
+  -- exactly the candidates, no more than processes that wait to write, and room for one of each process
+  pub record AreCandidates (candidates : CandidateList) : Type 0 where
+    pub each : (x : ℕ × ℕ) → Contains candidates.pairs x ↔ IsCandidate net M standings x
+    pub few : length candidates.pairs ≤ count_by waits_to_write standings
+    pub room : length standings ≤ candidates.limit

@@ -1,10 +1,10 @@
 -- Tokens that enter or leave a channel from outside the network.
-use Rattle.std.specs.Prelude.{◌≡◌, ◌<◌, ◌++◌, ◌∷◌, [], ℕ, length, drop}
+use Rattle.std.specs.Prelude.{◌≡◌, ◌<◌, ℕ, length}
 use Rattle.kpn_model.specs.declared.token.Token.{Token}
 use Rattle.kpn_model.specs.Network.{Family, Network, channel_of, Admits}
-use Rattle.kpn_model.specs.Semantics.{tokens, capacity, with_channel}
+use Rattle.kpn_model.specs.Semantics.{tokens, capacity, with_token, without_first}
 use Rattle.kpn_model.specs.Valid.{IsOfSort}
-use Rattle.kpn_state.specs.StateAndHistory.{state_and_history}
+use Rattle.kpn_state.specs.StateAndHistory.{put_in}
 use Rattle.kpn_state.specs.declared.standing.Standing.TheVariants.{Out}
 use Rattle.kpn_state.specs.Standings.{standing}
 use Rattle.kpn_commit.specs.declared.cores.Core.{Core}
@@ -12,11 +12,11 @@ use Rattle.kpn_commit.specs.Coherent.{IsCoherent}
 
 -- the core with this token put into c, without an entry
 abbrev pub fed : {H : Type 0} → Core H → ℕ → Token → Core H
-fed core c t = record core { store = state_and_history (with_channel core.store.state c (tokens core.store.state c ++ t ∷ []) (capacity core.store.state c)) core.store.history core.store.limit }
+fed core c t = record core { store = put_in core.store (with_token core.store.state c t) }
 
 -- the core without the first token of c, without an entry
 abbrev pub drained : {H : Type 0} → Core H → ℕ → Core H
-drained core c = record core { store = state_and_history (with_channel core.store.state c (drop 1 (tokens core.store.state c)) (capacity core.store.state c)) core.store.history core.store.limit }
+drained core c = record core { store = put_in core.store (without_first core.store.state c) }
 
 module _ {H : Type 0} (kinds : Family) (admits : Admits) (net : Network) where
   -- c has room, and the token its sort

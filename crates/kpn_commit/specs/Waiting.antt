@@ -1,5 +1,5 @@
 -- Who waits at the channels: the candidates for a growth, and the marks of parked readers and writers.
-use Rattle.std.specs.Prelude.{◌≡◌, ◌↔◌, ◌<◌, ℕ, Bool, true, false, List, Option, Some, None, length}
+use Rattle.std.specs.Prelude.{◌≡◌, ◌↔◌, ◌<◌, ℕ, Bool, true, false, List, Option, Some, None, length, set}
 use Rattle.kpn_model.specs.declared.kinds.Act.{Act}
 use Rattle.kpn_model.specs.declared.kinds.Act.TheVariants.{Read, Write, Stop}
 use Rattle.kpn_model.specs.declared.history.Deed.{Deed}
@@ -10,7 +10,7 @@ use Rattle.kpn_state.specs.declared.standing.Standing.{Standing}
 use Rattle.kpn_state.specs.declared.standing.Standing.TheVariants.{Ready, Out, Parked, Stopped}
 use Rattle.kpn_state.specs.declared.waiting.Waiting.{Waiting}
 use Rattle.kpn_state.specs.Standings.{standing}
-use Rattle.kpn_state.specs.Marks.{MarkLists, is_marked}
+use Rattle.kpn_state.specs.Marks.{MarkLists, mark_lists, is_marked}
 use Rattle.kpn_commit.specs.Candidates.{awaited, AreCandidates}
 
 abbrev pub read_by_act : Network → ℕ → Act → Option ℕ
@@ -31,6 +31,10 @@ expected net standings p = expected_by net p (standing standings p)
 -- exactly the channels for which some process waits are marked
 abbrev pub StandFor : List Bool → (ℕ → Option ℕ) → Type 0
 StandFor marks waits = (c : ℕ) → (is_marked marks c ≡ true) ↔ ((p : ℕ) × (waits p ≡ Some c))
+
+-- no writer waits at c any more
+abbrev pub unmark_writer : MarkLists → ℕ → MarkLists
+unmark_writer marks c = mark_lists marks.readers (set marks.writers c false)
 
 pub record AreMarks (net : Network) (standings : List Standing) (marks : MarkLists) : Type 0 where
   pub readers : StandFor marks.readers (λ p. expected net standings p)

@@ -36,12 +36,13 @@ end_after Busy budget entries = if nat_le budget entries then Some Budget else N
 end_after (Ended end) budget entries = Some end
 end_after Enlarged budget entries = if nat_le budget entries then Some Budget else None
 
-pub record Works (kinds : Family) (net : Network) (s : StateAndHistory) (standings : List Standing) (p : ℕ) (a : Answer) (outcome : Outcome) (t : StateAndHistory) (moved : List Standing) (end : Option End) : Type 0 where
-  pub reaction : Reaction
-  pub between : StateAndHistory
-  pub standings_between : List Standing
-  pub reacts : Reacts kinds net s standings p a reaction between standings_between
-  pub resolution : Resolution
-  pub resolves : Resolves kinds net between standings_between resolution t moved
-  pub outcome_is : outcome ≡ outcome_of reaction resolution
-  pub end_is : end ≡ end_after resolution net.budget (length t.history)
+module _ (kinds : Family) (net : Network) (s : StateAndHistory) (standings : List Standing) (p : ℕ) (a : Answer) where
+  pub record Works (outcome : Outcome) (t : StateAndHistory) (moved : List Standing) (end : Option End) : Type 0 where
+    pub reaction : Reaction
+    pub between : StateAndHistory
+    pub standings_between : List Standing
+    pub reacts : Reacts kinds net s standings p a reaction between standings_between
+    pub resolution : Resolution
+    pub resolves : Resolves kinds net between standings_between resolution t moved
+    pub outcome_is : outcome ≡ outcome_of reaction resolution
+    pub end_is : end ≡ end_after resolution net.budget (length t.history)

@@ -1,14 +1,9 @@
 //! Does the acts of processes.
-ghost use Rattle.std.specs.Prelude.{◌≡◌, ◌<◌, ℕ, List, Option, length, set, Some, IfSome, IfNone, IsSome};
-ghost use Rattle.kpn_model.specs.declared.token.Token.{Token as TokenV};
+ghost use Rattle.std.specs.Prelude.{◌≡◌, ◌<◌, length, set, Some, IfSome, IfNone, IsSome};
 ghost use Rattle.kpn_model.specs.Families.{family};
-ghost use Rattle.kpn_model.specs.Lawful.{NamesPort, LeadsOn};
-ghost use Rattle.kpn_model.specs.Semantics.{wants, IsPossible, IsDeed, after_deed};
-ghost use Rattle.kpn_model.specs.declared.kinds.Act.TheVariants.{Stop};
-ghost use Rattle.kpn_model.specs.declared.history.Entry.TheVariants.{Did};
-ghost use Rattle.kpn_state.specs.StateAndHistory.{more};
-ghost use Rattle.kpn_state.specs.Standings.{StandingsFit, standing, standing_after, partner, HasChannel};
-ghost use Rattle.kpn_commit.specs.Reactions.{HasRoomToAct, EntersDeed, IsLeft, WantsToAct, ActsOn, CannotGoOn};
+ghost use Rattle.kpn_model.specs.Semantics.{wants, IsPossible, IsDeed};
+ghost use Rattle.kpn_state.specs.Standings.{StandingsFit, standing, standing_after, HasChannel};
+ghost use Rattle.kpn_commit.specs.Reactions.{HasRoomToAct, EntersDeed, IsLeft, WantsToAct, CannotGoOn, AnswersLeadOn, AnswersNamePorts, FitButPartner, HasActed, IsEntered};
 
 use kpn_model::{Act, Answer, Card, Deed, Kinds};
 use kpn_network::Net;
@@ -53,8 +48,8 @@ fn read_or_write<K: Kinds, H: Keeper>(
 /// Ghost lemma: the laws of the family for each answer of a card.
 fn laws_of<K: Kinds>(card: Card)
     requires signed { IsSome (K.signature card) }
-    ensures names { (local : List ℕ) (last : Option TokenV) → K.admits card local last → NamesPort K.signature card (K.answer_of card local last).act }
-    ensures leads { (local : List ℕ) (last : Option TokenV) (token : TokenV) → K.admits card local last → LeadsOn K.signature K.admits card (K.answer_of card local last) token }
+    ensures names { AnswersNamePorts K.Kinds card }
+    ensures leads { AnswersLeadOn K.Kinds card }
 {
     K::lawful();
     let _kind = card.kind;
@@ -76,10 +71,10 @@ pub fn advance<K: Kinds, H: Keeper>(
     requires wants { wants (family K.Kinds) net.now store.old.state process ≡ Some answer }
     requires room { length store.old.history < store.old.limit }
     ensures is_deed { IfSome result (IsDeed (family K.Kinds) net.now store.old.state process answer.act) }
-    ensures entry { IfSome result (λ deed. store.new ≡ more store.old (after_deed (family K.Kinds) net.now store.old.state process answer.next deed) (Did process deed)) }
+    ensures entry { IfSome result (IsEntered (family K.Kinds) net.now store.old process answer store.new) }
     ensures standing { IfSome result (λ deed. standings.new ≡ set standings.old process (standing_after deed)) }
     ensures channel { IfSome result (HasChannel net.now) }
-    ensures keeps { IfSome result (λ deed. StandingsFit (family K.Kinds) K.admits net.now (partner net.now deed) store.new.state standings.new) }
+    ensures keeps { IfSome result (FitButPartner (family K.Kinds) K.admits net.now store.new.state standings.new) }
     ensures cannot { IfNone result (IsPossible (family K.Kinds) net.now store.old.state process answer.act → ⊥) }
     ensures same { IfNone result (store.new ≡ store.old) }
     ensures same_standings { IfNone result (standings.new ≡ standings.old) }
@@ -108,7 +103,7 @@ pub(crate) fn advance_on<K: Kinds, H: Keeper>(
     answer: Answer,
 ) -> Option<Deed>
     requires { WantsToAct (family K.Kinds) K.admits net.now store.old standings.now process answer }
-    ensures acts { IfSome result (λ deed. ActsOn (family K.Kinds) K.admits net.now store.old standings.now process answer deed store.new) }
+    ensures acts { IfSome result (HasActed K.Kinds net.now store.old standings.now process answer store.new) }
     ensures cannot { IfNone result (CannotGoOn (family K.Kinds) net.now store.old.state process answer) }
     ensures left { IfNone result (store.new ≡ store.old) }
 {

@@ -1,10 +1,9 @@
 //! Parks processes, and notes that one waits no more.
-ghost use Rattle.std.specs.Prelude.{◌≡◌, ◌<◌, length, set, true, false};
+ghost use Rattle.std.specs.Prelude.{◌≡◌, ◌<◌, length, set, true};
 ghost use Rattle.kpn_state.specs.declared.standing.Standing.TheVariants.{Parked};
 ghost use Rattle.kpn_state.specs.Candidates.{Removes};
-ghost use Rattle.kpn_state.specs.Marks.{mark_lists};
 ghost use Rattle.kpn_state.specs.Standings.{standing, is_busy};
-ghost use Rattle.kpn_commit.specs.Waiting.{AreWaiting};
+ghost use Rattle.kpn_commit.specs.Waiting.{AreWaiting, unmark_writer};
 
 use crate::cores::Core;
 use kpn_model::{Act, Answer, Kinds};
@@ -47,7 +46,7 @@ pub fn park<K: Kinds, H: Keeper>(net: &Net<K>, core: &mut Core<H>, process: usiz
 pub(crate) fn unlist(waiting: &mut Waiting, capacity: usize, channel: usize)
     requires { channel < length waiting.old.marks.writers }
     ensures candidates { Removes waiting.old.candidates (capacity, channel) waiting.new.candidates }
-    ensures marks { waiting.new.marks ≡ mark_lists waiting.old.marks.readers (set waiting.old.marks.writers channel false) }
+    ensures marks { waiting.new.marks ≡ unmark_writer waiting.old.marks channel }
 {
     waiting.candidates.remove(capacity, channel);
     waiting.marks.note_writer(channel, false);

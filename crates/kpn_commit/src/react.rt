@@ -1,13 +1,11 @@
 //! The immediate effect of an answer.
 ghost use Rattle.std.specs.Prelude.{◌≡◌, ◌≢◌, IfSome, IfNone, IsTrue, false};
 ghost use Rattle.kpn_model.specs.Families.{family};
-ghost use Rattle.kpn_model.specs.declared.kinds.Answer.{Answer as AnswerV};
-ghost use Rattle.kpn_model.specs.Semantics.{IsPossible};
-ghost use Rattle.kpn_state.specs.declared.standing.Standing.TheVariants.{Parked, Ready};
+ghost use Rattle.kpn_state.specs.declared.standing.Standing.TheVariants.{Ready};
 ghost use Rattle.kpn_state.specs.Standings.{standing, partner, HasChannel};
 ghost use Rattle.kpn_commit.specs.Waiting.{HasMark, partner_marked};
 ghost use Rattle.kpn_commit.specs.Reactions.{CannotGoOn};
-ghost use Rattle.kpn_commit.specs.Answering.{HasAnswered, HasAnsweredInPlace, MayResume, ReactsTo, ReactsInPlace, KeepsStanding, Resumes, made_ready};
+ghost use Rattle.kpn_commit.specs.Answering.{HasAnswered, HasAnsweredInPlace, MayResume, ReactsTo, ReactsInPlace, KeepsStanding, Resumes, CannotResume, ReactsOn};
 ghost use Rattle.kpn_commit.specs.declared.react.Reaction.{Reaction as ReactionV};
 
 use crate::act::{advance, advance_on};
@@ -67,7 +65,7 @@ pub(crate) fn react_on<K: Kinds, H: Keeper>(
     answer: Answer,
 ) -> Option<Reaction>
     requires { HasAnswered (family K.Kinds) K.admits net.now core.old process answer 2 }
-    ensures reacts { IfSome result (λ r. ReactsTo (family K.Kinds) K.admits net.now core.old process answer r (made_ready core.new process)) }
+    ensures reacts { IfSome result (ReactsOn (family K.Kinds) K.admits net.now core.old process answer core.new) }
     ensures standing { KeepsStanding core.old.standings core.new.standings process }
     ensures cannot { IfNone result (CannotGoOn (family K.Kinds) net.now core.old.store.state process answer) }
     ensures left { IfNone result (core.new ≡ core.old) }
@@ -131,7 +129,7 @@ fn park_or_stop<K: Kinds, H: Keeper>(
 fn resume<K: Kinds, H: Keeper>(net: &Net<K>, core: &mut Core<H>, process: usize) -> bool
     requires { MayResume (family K.Kinds) K.admits net.now core.old process }
     ensures resumes { IsTrue result → Resumes (family K.Kinds) K.admits net.now core.old process core.new }
-    ensures cannot { result ≡ false → (a : AnswerV) → standing core.old.standings process ≡ Parked a → IsPossible (family K.Kinds) net.now core.old.store.state process a.act → ⊥ }
+    ensures cannot { result ≡ false → CannotResume (family K.Kinds) net.now core.old process }
     ensures same { result ≡ false → core.new ≡ core.old }
 {
     let Some(wanted) = parked(core.standings.as_slice(), process) else {

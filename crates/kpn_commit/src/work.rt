@@ -1,15 +1,11 @@
 //! The work of a commit.
-ghost use Rattle.std.specs.Prelude.{◌≡◌, ◌≢◌, ◌<◌, ◌≤◌, ◌+◌, length, set, None, false, IfSome, IfNone};
+ghost use Rattle.std.specs.Prelude.{◌≡◌, ◌≤◌, ◌+◌, length, IfSome, IfNone};
 ghost use Rattle.kpn_model.specs.Families.{family};
-ghost use Rattle.kpn_model.specs.Semantics.{IsPossible};
-ghost use Rattle.kpn_model.specs.declared.kinds.Act.TheVariants.{Stop};
-ghost use Rattle.kpn_state.specs.declared.standing.Standing.TheVariants.{Ready};
-ghost use Rattle.kpn_state.specs.Standings.{standing, is_busy};
-ghost use Rattle.kpn_commit.specs.Answering.{HasAnswered, WorksTo};
+ghost use Rattle.kpn_state.specs.Standings.{standing};
+ghost use Rattle.kpn_commit.specs.Answering.{HasAnswered, WorksTo, CannotGoOnInBudget, ResolvesCore, WorksOnReady, made_ready};
 ghost use Rattle.kpn_commit.specs.Coherent.{IsCoherent};
-ghost use Rattle.kpn_commit.specs.Resolving.{Resolves};
-ghost use Rattle.kpn_commit.specs.Works.{Works, outcome_of, end_after, resolution_entries};
-ghost use Rattle.std.specs.List.{list_any};
+ghost use Rattle.kpn_commit.specs.Resolving.{NoneIsBusy};
+ghost use Rattle.kpn_commit.specs.Works.{outcome_of, end_after, resolution_entries};
 
 use crate::cores::Core;
 use crate::outcome::Outcome;
@@ -61,8 +57,8 @@ fn end_after(resolution: Resolution, budget: u64, entries: u64) -> Option<End>
 #[inline(always)]
 pub fn settle<K: Kinds, H: Keeper>(net: &Net<K>, core: &mut Core<H>) -> (Resolution, Option<End>)
     requires coherent { IsCoherent (family K.Kinds) K.admits net.now core.old }
-    requires room { list_any is_busy core.old.standings ≡ false → length core.old.store.history + 2 ≤ core.old.store.limit }
-    ensures resolves { Resolves (family K.Kinds) net.now core.old.store core.old.standings result.0 core.new.store core.new.standings }
+    requires room { NoneIsBusy core.old.standings → length core.old.store.history + 2 ≤ core.old.store.limit }
+    ensures resolves { ResolvesCore (family K.Kinds) net.now core.old result.0 core.new }
     ensures ended { result.1 ≡ end_after result.0 net.now.budget (length core.new.store.history) }
     ensures coherent { IsCoherent (family K.Kinds) K.admits net.now core.new }
 {
@@ -119,11 +115,11 @@ pub fn work_on<K: Kinds, H: Keeper>(
     answer: Answer,
 ) -> Option<Outcome>
     requires { HasAnswered (family K.Kinds) K.admits net.now core.old process answer 3 }
-    ensures works { IfSome result (λ outcome. Works (family K.Kinds) net.now core.old.store core.old.standings process answer outcome core.new.store (set core.new.standings process Ready) None) }
+    ensures works { IfSome result (WorksOnReady (family K.Kinds) net.now core.old process answer core.new) }
     ensures stays { standing core.new.standings process ≡ standing core.old.standings process }
     ensures many { length core.new.standings ≡ length core.old.standings }
-    ensures coherent { IfSome result (λ _. IsCoherent (family K.Kinds) K.admits net.now (record core.new { standings = set core.new.standings process Ready })) }
-    ensures cannot { IfNone result (length core.old.store.history + 2 < net.now.budget → answer.act ≢ Stop → IsPossible (family K.Kinds) net.now core.old.store.state process answer.act → ⊥) }
+    ensures coherent { IfSome result (λ _. IsCoherent (family K.Kinds) K.admits net.now (made_ready core.new process)) }
+    ensures cannot { IfNone result (CannotGoOnInBudget (family K.Kinds) net.now core.old process answer) }
     ensures same { IfNone result (core.new ≡ core.old) }
 {
     let entries = core.store.entries() as u64;

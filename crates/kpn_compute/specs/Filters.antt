@@ -45,7 +45,15 @@ OfEachCard P =
 abbrev pub OfAllKept : (List ℕ → Type 0) → Type 0
 OfAllKept P = (a b c d : ℕ) → IsWord a → IsWord b → IsWord c → IsWord d → P (a ∷ b ∷ c ∷ d ∷ [])
 
+-- what is kept, and the word that is written, after this was kept and this word was read
+abbrev pub FilterStep : Type 0
+FilterStep = List ℕ → ℕ → List ℕ × ℕ
+
+-- after each word four words are kept, and a word is written
+abbrev pub StepsToWords : FilterStep → List ℕ → Type 0
+StepsToWords step kept = (w : ℕ) → IsWord w → AreKept (step kept w).0 × IsWord (step kept w).1
+
 -- four words are kept at the start and after each word read, and a word is written
-pub record KeepWords (accepts : Card → Bool) (start : Card → List ℕ) (step : Card → List ℕ → ℕ → List ℕ × ℕ) : Type 0 where
+pub record KeepWords (accepts : Card → Bool) (start : Card → List ℕ) (step : Card → FilterStep) : Type 0 where
   pub at_start : OfEachCard (λ card. accepts card ≡ true → AreKept (start card))
-  pub after_word : OfEachCard (λ card. accepts card ≡ true → OfAllKept (λ kept. (w : ℕ) → IsWord w → AreKept (step card kept w).0 × IsWord (step card kept w).1))
+  pub after_word : OfEachCard (λ card. accepts card ≡ true → OfAllKept (StepsToWords (step card)))

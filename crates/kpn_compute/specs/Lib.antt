@@ -1,3 +1,4 @@
+pub mod Bodies
 pub mod Both
 pub mod Filters
 pub mod KindTable

@@ -1,5 +1,6 @@
 //! Bodies that are only a card.
 ghost use Rattle.std.specs.Prelude.{◌≡◌, IsSome, IfOk, map};
+ghost use Rattle.kpn_compute.specs.Bodies.{process_cards};
 
 use crate::computes::Computes;
 use kpn_body::Body;
@@ -70,7 +71,7 @@ impl<K: Computes> Body for CardBody<K> {
 /// let bodies = bodies_of(alloc, &net)?;
 /// ```
 pub fn bodies_of<K: Computes>(alloc: Global, net: &Net<K>) -> Result<Vec<CardBody<K>>, AllocError>
-    ensures { IfOk result (λ bodies. map ⟦<CardBody<K> as Body>⟧.card bodies.items ≡ map (λ p. p.card) net.now.processes) }
+    ensures { IfOk result (λ bodies. map ⟦<CardBody<K> as Body>⟧.card bodies.items ≡ process_cards net.now) }
 {
     let mut bodies = Vec::with_capacity(alloc, net.processes())?;
     for process in 0..net.processes() {

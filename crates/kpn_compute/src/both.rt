@@ -1,7 +1,7 @@
 //! Joins two families.
-ghost use Rattle.std.specs.Prelude.{◌≡◌, ◌⊎◌, ◌↔◌, ◌<◌, ◌-◌, ◌^◌, true, false, None, IsSome, IfSome};
+ghost use Rattle.std.specs.Prelude.{◌≡◌, ◌⊎◌, ◌↔◌, ◌<◌, true, false, None, IsSome, IfSome};
 ghost use Rattle.kpn_model.specs.Families.{family};
-ghost use Rattle.kpn_compute.specs.Both.{is_first, own_card, both_named, both_ports, both_family, BothAdmit, IsNameRefused, MeansOwn, number_in_both};
+ghost use Rattle.kpn_compute.specs.Both.{is_first, own_card, both_named, both_ports, both_family, BothAdmit, number_in_both, IsSharedRefused, MeansOwnAlone};
 
 use crate::computes::Computes;
 use kpn_model::{Answer, Card, Kinds, Local, Signature, Token};
@@ -70,9 +70,9 @@ impl<A: Kinds, B: Kinds> Kinds for Both<A, B> {
     fn named(name: &str) -> Option<(u16, usize)>
         ensures is { result ≡ both_named A.named B.named name.now }
         ensures known { IsSome result ↔ (IsSome (A.named name.now) ⊎ IsSome (B.named name.now)) }
-        ensures shared { IsSome (A.named name.now) → IsSome (B.named name.now) → IsNameRefused (both_ports A.signature B.signature) result }
-        ensures first { IfSome (A.named name.now) (λ own. B.named name.now ≡ None → own.0 < 2 ^ 15 - 1 → MeansOwn true own result) }
-        ensures second { IfSome (B.named name.now) (λ own. A.named name.now ≡ None → own.0 < 2 ^ 15 - 1 → MeansOwn false own result) }
+        ensures shared { IsSharedRefused A.signature B.signature (A.named name.now) (B.named name.now) result }
+        ensures first { IfSome (A.named name.now) (MeansOwnAlone true (B.named name.now) result) }
+        ensures second { IfSome (B.named name.now) (MeansOwnAlone false (A.named name.now) result) }
     {
         match (A::named(name), B::named(name)) {
             (None, None) => None,

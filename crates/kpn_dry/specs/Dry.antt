@@ -11,15 +11,16 @@ use Rattle.kpn_model.specs.History.{deeds, stream, IsPrefixOf}
 -- a process has stopped, or waits to read an empty channel whose writer is dry. No process of a cycle of waits is dry
 pub data IsDry (kinds : Family) (net : Network) (M : State) : ℕ → Type 0 where
   stopped : {p : ℕ} → status M p ≡ Done → IsDry kinds net M p
-  waits : {p : ℕ} (answer : Answer) (port c : ℕ) → wants kinds net M p ≡ Some answer → answer.act ≡ Read port → in_of net p port ≡ Some c → tokens M c ≡ []
+  waits : {p : ℕ} (answer : Answer) (port c : ℕ)
+      → wants kinds net M p ≡ Some answer → answer.act ≡ Read port → in_of net p port ≡ Some c → tokens M c ≡ []
       → IsDry kinds net M (channel_of net c).writer → IsDry kinds net M p
 
 -- the writer of channel c is dry
 abbrev pub IsComplete : Family → Network → State → ℕ → Type 0
 IsComplete kinds net M c = IsDry kinds net M (channel_of net c).writer
 
--- the stream of c in the run E is whole: the same in each longer run, and any other run's, from any starting capacities,
--- is a prefix of it
+-- the stream of c in the run E is whole: the same in each longer run, and any other run's, from any starting
+-- capacities, is a prefix of it
 pub record IsWhole (kinds : Family) (net : Network) (E : List Entry) (c : ℕ) : Type 0 where
   pub longer : (F : List Entry) (N : State) → IsRun kinds net (E ++ F) N → stream net (E ++ F) c ≡ stream net E c
   pub others : (sizes : ℕ → ℕ) (F : List Entry) (N : State) → IsRun kinds (resized net sizes) F N

@@ -1,8 +1,6 @@
 //! Which processes could go on, as text.
-ghost use Rattle.std.specs.Prelude.{◌≡◌, ◌++◌, OnOk, length, string_bytes};
-ghost use Rattle.kpn_model.specs.texts.Reports.{lines_upto};
-ghost use Rattle.kpn_dry.specs.ActiveLine.{active_line, active_name};
-ghost use Rattle.kpn_dry.specs.Told.{is_told_dry};
+ghost use Rattle.std.specs.Prelude.{◌≡◌, ◌++◌, OnOk, string_bytes};
+ghost use Rattle.kpn_dry.specs.ActiveLine.{told_line, told_names, told_name};
 
 use crate::telling::is_dry;
 use kpn_model::Kinds;
@@ -18,7 +16,7 @@ pub fn push_active_line<K: Kinds>(
     net: &Net<K>,
     standings: &[Standing],
 ) -> Result<(), AllocError>
-    ensures { OnOk result (string_bytes out.new ≡ string_bytes out.old ++ active_line net.now (is_told_dry net.now standings.now)) }
+    ensures { OnOk result (string_bytes out.new ≡ string_bytes out.old ++ told_line net.now standings.now) }
 {
     out.push_str("active")?;
     push_active_names(out, net, standings)?;
@@ -30,7 +28,7 @@ fn push_active_names<K: Kinds>(
     net: &Net<K>,
     standings: &[Standing],
 ) -> Result<(), AllocError>
-    ensures { OnOk result (string_bytes out.new ≡ string_bytes out.old ++ lines_upto (active_name net.now (is_told_dry net.now standings.now)) (length net.now.processes)) }
+    ensures { OnOk result (string_bytes out.new ≡ string_bytes out.old ++ told_names net.now standings.now) }
 {
     for p in 0..net.processes() {
         push_active_name(out, net, standings, p)?;
@@ -44,7 +42,7 @@ fn push_active_name<K: Kinds>(
     standings: &[Standing],
     process: usize,
 ) -> Result<(), AllocError>
-    ensures { OnOk result (string_bytes out.new ≡ string_bytes out.old ++ active_name net.now (is_told_dry net.now standings.now) process) }
+    ensures { OnOk result (string_bytes out.new ≡ string_bytes out.old ++ told_name net.now standings.now process) }
 {
     if is_dry(net, standings, process) {
         return Ok(());

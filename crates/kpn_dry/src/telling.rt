@@ -1,10 +1,8 @@
 //! Which processes are dry.
-ghost use Rattle.std.specs.Prelude.{◌≡◌, ◌↔◌, ℕ, true, false};
-ghost use Rattle.kpn_model.specs.Network.{Family, channel_of};
-ghost use Rattle.kpn_model.specs.Semantics.{State};
-ghost use Rattle.kpn_state.specs.Standings.{standing, has_stopped, is_busy};
-ghost use Rattle.kpn_dry.specs.Dry.{IsComplete, IsDry};
-ghost use Rattle.kpn_dry.specs.Told.{IsToldDry, TellWaits, awaited, is_told_dry, writer_read};
+ghost use Rattle.std.specs.Prelude.{◌≡◌, ◌↔◌, true};
+ghost use Rattle.kpn_model.specs.Network.{channel_of};
+ghost use Rattle.kpn_state.specs.Standings.{standing, has_stopped};
+ghost use Rattle.kpn_dry.specs.Told.{IsToldDry, awaited, is_told_dry, writer_read, IsDryIfTold, IsNotDryIfTold, IsCompleteIfTold, IsIncompleteIfTold};
 
 use kpn_model::{Act, Kinds};
 use kpn_network::Net;
@@ -17,8 +15,8 @@ use kpn_state::standing::parked;
 pub fn is_dry<K: Kinds>(net: &Net<K>, standings: &[Standing], process: usize) -> bool
     ensures is { result ≡ is_told_dry net.now standings.now process }
     ensures told { (result ≡ true) ↔ IsToldDry net.now standings.now process }
-    ensures dry { (kinds : Family) (M : State) → TellWaits kinds net.now M standings.now → result ≡ true → IsDry kinds net.now M process }
-    ensures not_dry { (kinds : Family) (M : State) → TellWaits kinds net.now M standings.now → ((p : ℕ) → is_busy (standing standings.now p) ≡ false) → result ≡ false → IsDry kinds net.now M process → ⊥ }
+    ensures dry { IsDryIfTold net.now standings.now process result }
+    ensures not_dry { IsNotDryIfTold net.now standings.now process result }
 {
     is_told_dry(net, standings, process)
 }
@@ -40,8 +38,8 @@ fn is_told_dry<K: Kinds>(net: &Net<K>, standings: &[Standing], process: usize) -
 /// channel's is taken for a channel of process 0.
 pub fn is_complete<K: Kinds>(net: &Net<K>, standings: &[Standing], channel: usize) -> bool
     ensures is { result ≡ is_told_dry net.now standings.now (channel_of net.now channel).writer }
-    ensures complete { (kinds : Family) (M : State) → TellWaits kinds net.now M standings.now → result ≡ true → IsComplete kinds net.now M channel }
-    ensures not_complete { (kinds : Family) (M : State) → TellWaits kinds net.now M standings.now → ((p : ℕ) → is_busy (standing standings.now p) ≡ false) → result ≡ false → IsComplete kinds net.now M channel → ⊥ }
+    ensures complete { IsCompleteIfTold net.now standings.now channel result }
+    ensures not_complete { IsIncompleteIfTold net.now standings.now channel result }
 {
     is_dry(net, standings, writer_of(net, channel))
 }

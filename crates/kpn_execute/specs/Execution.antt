@@ -1,9 +1,12 @@
 -- What the program writes of a network, and its exit status.
-use Rattle.std.specs.Prelude.{◌≡◌, ◌≢◌, ◌<◌, ◌⊎◌, ℕ, true, List, Option, Some, None}
+use Rattle.std.specs.Prelude.{◌≡◌, ◌≢◌, ◌<◌, ◌⊎◌, ℕ, true, List, Option, Some, None, option_map}
+use Rattle.std.specs.Borrow.{Bor}
 use Rattle.kpn_model.specs.declared.history.Entry.{Entry}
 use Rattle.kpn_model.specs.declared.history.End.{End}
 use Rattle.kpn_model.specs.declared.history.End.TheVariants.{Terminated, Deadlock, Ceiling, Budget, Memory}
 use Rattle.kpn_sketch.specs.declared.fault.NetFault.TheVariants.{Memory as OutOfMemory}
+use Rattle.kpn_model.specs.declared.kinds.Kinds.{Ghosts as KindsOf}
+use Rattle.kpn_model.specs.Families.{family}
 use Rattle.kpn_model.specs.Network.{Family, Network, number_of_channel}
 use Rattle.kpn_model.specs.Semantics.{State, IsRun}
 use Rattle.kpn_model.specs.Endings.{IsFinal, MayEnd}
@@ -31,6 +34,14 @@ pub record TellsNoChannel (net : Network) (show : Option (List ℕ)) (status : E
   pub status_is : status ≡ WrongArguments
   pub text_is : text ≡ no_channel_line name
 
+-- the name of the channel to show
+abbrev pub name_shown : Option (Bor (List ℕ)) → Option (List ℕ)
+name_shown show = option_map (λ s. s.now) show
+
+-- this is the name, and no channel has it
+abbrev pub IsUnknownName : Network → Option (List ℕ) → List ℕ → Type 0
+IsUnknownName net show name = (show ≡ Some name) × (number_of_channel net name ≡ None)
+
 -- this is the channel to show, if any
 abbrev pub IsChannelToShow : Network → Option (List ℕ) → Option ℕ → Type 0
 IsChannelToShow net None channel = channel ≡ None
@@ -49,21 +60,23 @@ pub record TellsLost (workers : ℕ) (status : ExitStatus) (text : List ℕ) : T
 
 -- each run that is over has this text, whatever the schedule
 abbrev pub IsTextOfEveryRun : Family → Network → Option ℕ → List ℕ → Type 0
-IsTextOfEveryRun kinds net channel text = (F : List Entry) (N : State) (b : End) → IsFinal kinds net F N b → text ≡ report_text kinds net b F N channel
+IsTextOfEveryRun kinds net channel text =
+    (F : List Entry) (N : State) (b : End) → IsFinal kinds net F N b → text ≡ report_text kinds net b F N channel
 
--- a run ended, with a justified end; it took no more room than the network needs, and its streams approach
--- the least solution
-pub record TellsRun (kinds : Family) (net : Network) (channel : Option ℕ) (status : ExitStatus) (text : List ℕ) : Type 0 where
-  pub history : List Entry
-  pub state : State
-  pub cause : End
-  pub run : IsRun kinds net history state
-  pub justified : MayEnd kinds net history state cause
-  pub room : TakesLeastRoom kinds net history state
-  pub streams : ApproachLeastSolution kinds net history state
-  pub status_is : status ≡ status_of_end cause
-  pub text_is : text ≡ report_text kinds net cause history state channel
-  pub every : has_report cause ≡ true → IsTextOfEveryRun kinds net channel text
+module _ (kinds : Family) (net : Network) where
+  -- a run ended, with a justified end; it took no more room than the network needs, and its streams approach
+  -- the least solution
+  pub record TellsRun (channel : Option ℕ) (status : ExitStatus) (text : List ℕ) : Type 0 where
+    pub history : List Entry
+    pub state : State
+    pub cause : End
+    pub run : IsRun kinds net history state
+    pub justified : MayEnd kinds net history state cause
+    pub room : TakesLeastRoom kinds net history state
+    pub streams : ApproachLeastSolution kinds net history state
+    pub status_is : status ≡ status_of_end cause
+    pub text_is : text ≡ report_text kinds net cause history state channel
+    pub every : has_report cause ≡ true → IsTextOfEveryRun kinds net channel text
 
 -- written of a run that ended
 abbrev pub TellsEnded : Family → Network → Option ℕ → ExitStatus → List ℕ → Type 0
@@ -71,15 +84,23 @@ TellsEnded kinds net channel status text = TellsNoMemory status text ⊎ TellsRu
 
 -- written of a network run by this number of workers, if `--show` is absent or names a channel
 abbrev pub TellsShown : Family → Network → ℕ → Option ℕ → ExitStatus → List ℕ → Type 0
-TellsShown kinds net workers channel status text = TellsLost workers status text ⊎ TellsEnded kinds net channel status text
+TellsShown kinds net workers channel status text =
+    TellsLost workers status text ⊎ TellsEnded kinds net channel status text
+
+-- written of it, with the channel to show
+abbrev pub TellsOfChannel : Family → Network → ℕ → Option (List ℕ) → ExitStatus → List ℕ → Type 0
+TellsOfChannel kinds net workers show status text =
+    (channel : Option ℕ) × IsChannelToShow net show channel × TellsShown kinds net workers channel status text
 
 -- written of a network run by this number of workers, and the status
 abbrev pub Tells : Family → Network → ℕ → Option (List ℕ) → ExitStatus → List ℕ → Type 0
-Tells kinds net workers show status text = TellsNoChannel net show status text ⊎ ((channel : Option ℕ) × IsChannelToShow net show channel × TellsShown kinds net workers channel status text)
+Tells kinds net workers show status text =
+    TellsNoChannel net show status text ⊎ TellsOfChannel kinds net workers show status text
 
 -- or out of memory for the bodies
 abbrev pub TellsOrNoMemory : Family → Network → ℕ → Option (List ℕ) → ExitStatus → List ℕ → Type 0
-TellsOrNoMemory kinds net workers show status text = TellsNoMemory status text ⊎ Tells kinds net workers show status text
+TellsOrNoMemory kinds net workers show status text =
+    TellsNoMemory status text ⊎ Tells kinds net workers show status text
 
 -- a text is written, with its status
 pub record Writes (tells : ExitStatus → List ℕ → Type 0) (before after : SinkView) (number : ℕ) : Type 0 where
@@ -94,4 +115,22 @@ Executes kinds net workers show before after number = Writes (Tells kinds net wo
 
 -- what a program that makes the bodies of the network writes
 abbrev pub MakesAndExecutes : Family → Network → ℕ → Option (List ℕ) → SinkView → SinkView → ℕ → Type 0
-MakesAndExecutes kinds net workers show before after number = Writes (TellsOrNoMemory kinds net workers show) before after number
+MakesAndExecutes kinds net workers show before after number =
+    Writes (TellsOrNoMemory kinds net workers show) before after number
+
+-- what is written of a run that ended, of one by several workers, which may be lost, and of a network
+module _ {X : Type 0} (kinds : KindsOf X) where
+  abbrev pub WritesEnded : Network → Option ℕ → SinkView → SinkView → ℕ → Type 0
+  WritesEnded net channel before after number = Writes (TellsEnded (family kinds) net channel) before after number
+
+  abbrev pub WritesShown : Network → ℕ → Option ℕ → SinkView → SinkView → ℕ → Type 0
+  WritesShown net workers channel before after number =
+      Writes (TellsShown (family kinds) net workers channel) before after number
+
+  abbrev pub ExecutesNet : Network → ℕ → Option (Bor (List ℕ)) → SinkView → SinkView → ℕ → Type 0
+  ExecutesNet net workers show before after number =
+      Executes (family kinds) net workers (name_shown show) before after number
+
+  abbrev pub MakesAndExecutesNet : Network → ℕ → Option (Bor (List ℕ)) → SinkView → SinkView → ℕ → Type 0
+  MakesAndExecutesNet net workers show before after number =
+      MakesAndExecutes (family kinds) net workers (name_shown show) before after number

@@ -1,2 +1,3 @@
 pub mod Execution
+pub mod StandardRequests
 pub mod Program

@@ -1,7 +1,5 @@
 //! Networks of families with a plain function for their answers.
-ghost use Rattle.std.specs.Prelude.{option_map};
-ghost use Rattle.kpn_model.specs.Families.{family};
-ghost use Rattle.kpn_execute.specs.Execution.{MakesAndExecutes};
+ghost use Rattle.kpn_execute.specs.Execution.{MakesAndExecutesNet};
 
 use crate::execution::execute;
 use kpn_compute::{Computes, bodies_of};
@@ -24,7 +22,7 @@ pub fn execute_net<K: Computes, S: Sink, R: Wait + Clock + Threads + Sync>(
     show: Option<&str>,
     sink: &mut S,
 ) -> u8
-    ensures { MakesAndExecutes (family K.Kinds) net workers (option_map (λ s. s.now) show.entry) (S.seen sink.old) (S.seen sink.new) result }
+    ensures { MakesAndExecutesNet K.Kinds net workers show.entry (S.seen sink.old) (S.seen sink.new) result }
 {
     match bodies_of(alloc, &net) {
         Ok(bodies) => execute(rt, alloc, net, bodies, workers, show, sink),

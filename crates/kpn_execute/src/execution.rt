@@ -1,9 +1,8 @@
 //! Runs a network and writes the report.
-ghost use Rattle.std.specs.Prelude.{◌≡◌, ◌<◌, ◌≤◌, Some, None, IfOk, IfErr, IsSome, map, option_map};
-ghost use Rattle.kpn_model.specs.Network.{number_of_channel};
+ghost use Rattle.std.specs.Prelude.{◌≡◌, ◌<◌, ◌≤◌, Some, None, IfOk, IfErr, IsSome, map};
 ghost use Rattle.kpn_model.specs.Families.{family};
 ghost use Rattle.kpn_machine.specs.Opening.{cards_of};
-ghost use Rattle.kpn_execute.specs.Execution.{status_of_end, IsChannelToShow, Executes, TellsEnded, TellsShown, Writes};
+ghost use Rattle.kpn_execute.specs.Execution.{status_of_end, IsChannelToShow, TellsEnded, Writes, ExecutesNet, IsUnknownName, WritesEnded, WritesShown, name_shown};
 
 use kpn_args::MAX_WORKERS;
 use kpn_body::Body;
@@ -53,7 +52,7 @@ pub fn execute<B: Body, S: Sink, R: Wait + Clock + Threads + Sync>(
     sink: &mut S,
 ) -> u8
     requires cards { map B.card bodies.items ≡ cards_of net.processes }
-    ensures { Executes (family B.Kinds.Kinds) net workers (option_map (λ s. s.now) show.entry) (S.seen sink.old) (S.seen sink.new) result }
+    ensures { ExecutesNet B.Kinds.Kinds net workers show.entry (S.seen sink.old) (S.seen sink.new) result }
 {
     match channel_to_show(&net, show) {
         Ok(channel) => {
@@ -76,8 +75,8 @@ fn channel_to_show<'a, K: Kinds>(
     net: &Net<K>,
     show: Option<&'a str>,
 ) -> Result<Option<usize>, &'a str>
-    ensures channel { IfOk result (IsChannelToShow net.now (option_map (λ s. s.now) show.entry)) }
-    ensures unknown { IfErr result (λ name. (option_map (λ s. s.now) show.entry ≡ Some name.now) × (number_of_channel net.now name.now ≡ None)) }
+    ensures channel { IfOk result (IsChannelToShow net.now (name_shown show.entry)) }
+    ensures unknown { IfErr result (λ name. IsUnknownName net.now (name_shown show.entry) name.now) }
 {
     match show {
         None => Ok(None),
@@ -117,7 +116,7 @@ fn tell_by_workers<B: Body, S: Sink, R: Wait + Clock + Threads + Sync>(
 ) -> u8
     requires cards { map B.card request.bodies.items ≡ cards_of request.net.processes }
     requires workers { (1 < request.workers) × (request.workers ≤ 16) }
-    ensures { Writes (TellsShown (family B.Kinds.Kinds) request.net request.workers channel) (S.seen sink.old) (S.seen sink.new) result }
+    ensures { WritesShown B.Kinds.Kinds request.net request.workers channel (S.seen sink.old) (S.seen sink.new) result }
 {
     let WorkersRequest {
         net,
@@ -146,7 +145,7 @@ fn say_told<K: Kinds, H: Keeper, E: Entries, S: Sink>(
 ) -> u8
     requires ended { IsSome chronicle.now.end }
     requires entries { E.entries entries.now ≡ chronicle.now.history }
-    ensures { Writes (TellsEnded (family K.Kinds) chronicle.now.network channel) (S.seen sink.old) (S.seen sink.new) result }
+    ensures { WritesEnded K.Kinds chronicle.now.network channel (S.seen sink.old) (S.seen sink.new) result }
 {
     let Some(end) = chronicle.end() else {
         unreachable!()

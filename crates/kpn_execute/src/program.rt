@@ -1,12 +1,9 @@
 //! The program, from its arguments and input to its output.
 ghost use Rattle.std.specs.Prelude.{◌≡◌, ◌≢◌, ◌+◌, [], Some, None, string_bytes, IfSome, IfOk, IfErr, OnErr, map};
-ghost use Rattle.kpn_args.specs.Choices.{IsChoice, IsWordsFault};
-ghost use Rattle.kpn_front.specs.Lines.{refused_line, status_of_fault};
+ghost use Rattle.kpn_args.specs.Choices.{IsWordsFault};
 ghost use Rattle.kpn_front.specs.Loading.{ConsumesAtMost, longest};
-ghost use Rattle.kpn_front.specs.Written.{Says};
-ghost use Rattle.kpn_args.specs.declared.arguments.Choice.{Choice as ChoiceV};
 ghost use Rattle.kpn_execute.specs.Execution.{Writes};
-ghost use Rattle.kpn_execute.specs.Program.{Serves, TellsOf};
+ghost use Rattle.kpn_execute.specs.Program.{TellsOf, SaysRefused, Serving};
 
 use crate::standard::execute_standard;
 use kpn_args::{Choice, WordsFault, read_words};
@@ -48,7 +45,7 @@ pub fn serve<'a, I: Source, O: Sink, R: Wait + Clock + Threads + Sync>(
     source: &mut I,
     sink: &mut O,
 ) -> Result<Served, WordsFault>
-    ensures served { IfOk result (λ served. (choice : ChoiceV) × IsChoice (map (λ w. w.now) arguments.entry.now) choice × Serves choice (I.remaining source.old) (I.has_failed source.old) (I.has_failed source.new) (O.seen sink.old) (O.seen sink.new) served.status served.fault) }
+    ensures served { IfOk result (Serving I.Source O.Sink arguments.entry.now source.old source.new sink.old sink.new) }
     ensures accepted { IfOk result (λ served. served.fault ≡ None → served.message ≡ None) }
     ensures memory { IfOk result (λ served. served.fault ≡ Some NetFault.Memory → served.message ≡ None) }
     ensures input { IfOk result (λ served. served.fault ≡ Some NetFault.Input → served.message ≡ None) }
@@ -74,7 +71,7 @@ fn serve_refused<O: Sink>(alloc: Global, refused: &Refused, sink: &mut O) -> Ser
     ensures input { result.fault ≡ Some NetFault.Input → result.message ≡ None }
     ensures said { IfSome result.message (λ message. string_bytes message ≢ []) }
     ensures fault { result.fault ≡ Some refused.now.fault }
-    ensures says { Says (status_of_fault refused.now.fault) (refused_line refused.now.fault) (O.seen sink.old) (O.seen sink.new) result.status }
+    ensures says { SaysRefused refused.now.fault (O.seen sink.old) (O.seen sink.new) result.status }
 {
     Served {
         status: say_refused(&refused.fault, sink),

@@ -1,12 +1,13 @@
 //! Networks of standard kinds.
-ghost use Rattle.std.specs.Prelude.{◌≡◌, ◌<◌, All, IsSome, IfOk, IfSome, MatchOption, OnErr, Some, length, option_map, slice_get};
+ghost use Rattle.std.specs.Prelude.{◌≡◌, ◌<◌, All, IsSome, IfOk, MatchOption, OnErr, Some, length, slice_get};
 ghost use Rattle.kpn_standard.specs.Standard.{standard};
 ghost use Rattle.kpn_standard.specs.Signatures.{card_of_kind};
 ghost use Rattle.kpn_standard.specs.Table.{row_of};
-ghost use Rattle.kpn_body.specs.Calls.{IsCallable, Answers};
+ghost use Rattle.kpn_body.specs.Calls.{IsCallable};
 ghost use Rattle.kpn_body.specs.StandardKinds.{signature, Admitted};
 ghost use Rattle.kpn_machine.specs.Opening.{cards_of};
-ghost use Rattle.kpn_execute.specs.Execution.{Executes, MakesAndExecutes};
+ghost use Rattle.kpn_execute.specs.StandardRequests.{AnswersAs, ExecutesRequest};
+ghost use Rattle.kpn_execute.specs.Execution.{MakesAndExecutes, name_shown};
 
 use crate::execution::execute;
 use kpn_body::{
@@ -33,7 +34,7 @@ pub fn execute_standard<S: Sink, R: Wait + Clock + Threads + Sync>(
     show: Option<&str>,
     sink: &mut S,
 ) -> u8
-    ensures { MakesAndExecutes standard net workers (option_map (λ s. s.now) show.entry) (S.seen sink.old) (S.seen sink.new) result }
+    ensures { MakesAndExecutes standard net workers (name_shown show.entry) (S.seen sink.old) (S.seen sink.new) result }
 {
     let Ok(cards) = cards_of(alloc, &net) else {
         return say_refused(&NetFault::Memory, sink);
@@ -71,7 +72,7 @@ fn make_and_execute<S: Sink, R: Wait + Clock + Threads + Sync>(
 ) -> Result<u8, AllocError>
     requires signed { All (λ card. IsSome (signature card)) request.cards.now }
     requires cards { MatchOption request.net ⊥ (λ n. request.cards.now ≡ cards_of n.processes) }
-    ensures ok { IfOk result (λ status. IfSome request.entry.net (λ n. Executes standard n request.entry.workers (option_map (λ s. s.now) request.entry.show) (S.seen sink.old) (S.seen sink.new) status)) }
+    ensures ok { IfOk result (ExecutesRequest request.entry (S.seen sink.old) (S.seen sink.new)) }
     ensures err { OnErr result (sink.new ≡ sink.old) }
 {
     let CardsRequest {
@@ -230,7 +231,7 @@ fn signed_card(cards: &[Card], process: usize) -> SignedCard
 fn body_of(signed: SignedCard, kind: Kind, call: Call) -> StandardBody
     requires number { (row_of kind).number ≡ signed.card.kind }
     requires callable { IsCallable (Admitted (card_of_kind kind signed.card.args)) (pre call) }
-    requires answers { Answers (Admitted (card_of_kind kind signed.card.args)) (post call) (standard.answer (card_of_kind kind signed.card.args)) }
+    requires answers { AnswersAs (card_of_kind kind signed.card.args) (post call) }
     ensures { result.card ≡ signed.card }
 {
     StandardBody::new(signed.card, call)

@@ -1,9 +1,9 @@
 -- Runs of a network that is fed and drained from outside.
-use Rattle.std.specs.Prelude.{◌≡◌, ℕ, ◌<◌, ◌==◌, if◌then◌else◌, List, [], ◌∷◌, ◌++◌, length, drop}
+use Rattle.std.specs.Prelude.{◌≡◌, ℕ, ◌<◌, ◌==◌, if◌then◌else◌, List, [], ◌∷◌, length}
 use Rattle.kpn_model.specs.declared.token.Token.{Token}
 use Rattle.kpn_model.specs.declared.history.Entry.{Entry}
 use Rattle.kpn_model.specs.Network.{Family, Network}
-use Rattle.kpn_model.specs.Semantics.{State, tokens, capacity, with_channel, Transition}
+use Rattle.kpn_model.specs.Semantics.{State, tokens, capacity, with_token, without_first, Transition}
 
 -- an entry; or a token that came into a channel from outside, or left one
 pub data Event : Type 0 where
@@ -15,8 +15,8 @@ module _ (kinds : Family) (net : Network) where
   -- a token comes in only if there is room, and leaves in first-in, first-out order
   abbrev pub Happens : State → Event → State → Type 0
   Happens M (Went e) N = Transition kinds net M e N
-  Happens M (Fed c t) N = (c < length M.channels) × (length (tokens M c) < capacity M c) × (N ≡ with_channel M c (tokens M c ++ t ∷ []) (capacity M c))
-  Happens M (Drained c t) N = ((rest : List Token) × (tokens M c ≡ t ∷ rest)) × (N ≡ with_channel M c (drop 1 (tokens M c)) (capacity M c))
+  Happens M (Fed c t) N = (c < length M.channels) × (length (tokens M c) < capacity M c) × (N ≡ with_token M c t)
+  Happens M (Drained c t) N = ((rest : List Token) × (tokens M c ≡ t ∷ rest)) × (N ≡ without_first M c)
 
   -- the events lead from M to N, one after another
   abbrev pub Flows : State → List Event → State → Type 0

@@ -29,12 +29,13 @@ module _ (kinds : Family) where
     pub drained : IfSome result (λ token. Happens kinds s.network s.state (Drained c token) t.state)
     pub empty : IfNone result ((t ≡ s) × (tokens s.state c ≡ []))
 
-  -- this many tokens go out, to the front of the buffer, and no more only if it is full or c then empty
-  pub record DrainsInto (s : FlowView) (c : ℕ) (buffer : List Token) (count : ℕ) (filled : List Token) (t : FlowView) : Type 0 where
-    pub same : IsSameFlow s t
-    pub counts : t.counts ≡ s.counts
-    pub few : count ≤ length buffer
-    pub long : length filled ≡ length buffer
-    pub drained : Flows kinds s.network s.state (map (Drained c) (take count filled)) t.state
-    pub rest : drop count filled ≡ drop count buffer
-    pub empty : count < length buffer → tokens t.state c ≡ []
+  module _ (s : FlowView) (c : ℕ) (buffer : List Token) where
+    -- this many tokens go out, to the front of the buffer, and no more only if it is full or c then empty
+    pub record DrainsInto (count : ℕ) (filled : List Token) (t : FlowView) : Type 0 where
+      pub same : IsSameFlow s t
+      pub counts : t.counts ≡ s.counts
+      pub few : count ≤ length buffer
+      pub long : length filled ≡ length buffer
+      pub drained : Flows kinds s.network s.state (map (Drained c) (take count filled)) t.state
+      pub rest : drop count filled ≡ drop count buffer
+      pub empty : count < length buffer → tokens t.state c ≡ []

@@ -5,15 +5,16 @@ use Rattle.kpn_model.specs.declared.kinds.Act.TheVariants.{Read}
 use Rattle.kpn_model.specs.declared.kinds.Answer.{Answer}
 use Rattle.kpn_model.specs.declared.history.Entry.{Entry}
 use Rattle.kpn_model.specs.declared.history.Entry.TheVariants.{Did, Grew}
-use Rattle.kpn_model.specs.Network.{Family, Network, in_of}
+use Rattle.kpn_model.specs.Network.{Family, Network, in_of, channel_of}
 use Rattle.kpn_model.specs.Semantics.{State, tokens, wants, Does, Grows, IsQuiet, IsBlocked}
 use Rattle.kpn_model.specs.Endings.{NothingGoesOn}
 use Rattle.kpn_state.specs.declared.standing.Standing.{Standing}
 use Rattle.kpn_state.specs.Standings.{standing, parked_answer}
+use Rattle.kpn_commit.specs.declared.cores.Core.{Core}
 use Rattle.kpn_flow.specs.declared.counts.Counts.{Counts}
 use Rattle.kpn_flow.specs.declared.pause.Pause.{Pause}
 use Rattle.kpn_flow.specs.declared.pause.Pause.TheVariants.{Cut, Starved, Blocked, Over}
-use Rattle.kpn_flow.specs.Flows.{is_among, counted}
+use Rattle.kpn_flow.specs.Flows.{FlowView, is_among, counted}
 use Rattle.kpn_flow.specs.Waits.{holds_up, starves}
 
 module _ (kinds : Family) (net : Network) where
@@ -68,11 +69,19 @@ module _ (kinds : Family) (net : Network) where
     IsPause most done M Blocked = IsRest M Blocked
     IsPause most done M (Over end) = IsRest M (Over end)
 
+-- no reader of an input waits for a token in it
+abbrev pub NoneStarves : Network → List Standing → List ℕ → Type 0
+NoneStarves net standings inputs = list_any (starves net standings) inputs ≡ false
+
+-- some writer of an output waits for room in it
+abbrev pub SomeHoldsUp : Network → List Standing → List ℕ → Type 0
+SomeHoldsUp net standings outputs = list_any (holds_up net standings) outputs ≡ true
+
 -- the standings await a token in an input, or else room in an output
 abbrev pub IsAwaited : Network → List Standing → List ℕ → List ℕ → Pause → Type 0
 IsAwaited net standings inputs outputs Cut = ⊥
 IsAwaited net standings inputs outputs Starved = list_any (starves net standings) inputs ≡ true
-IsAwaited net standings inputs outputs Blocked = (list_any (starves net standings) inputs ≡ false) × (list_any (holds_up net standings) outputs ≡ true)
+IsAwaited net standings inputs outputs Blocked = NoneStarves net standings inputs × SomeHoldsUp net standings outputs
 IsAwaited net standings inputs outputs (Over end) = ⊥
 
 -- unless the flow was cut, the standings have what each process wants
@@ -80,10 +89,30 @@ abbrev pub TellWants : Family → Network → State → List Standing → Pause 
 TellWants kinds net M standings Cut = Unit {0}
 TellWants kinds net M standings pause = (p : ℕ) → wants kinds net M p ≡ parked_answer (standing standings p)
 
--- at most `most` entries lead from M to N, they were counted, and the flow returned for this reason
-pub record Advances (kinds : Family) (net : Network) (inputs outputs : List ℕ) (before after : Counts) (M N : State) (most : ℕ) (pause : Pause) : Type 0 where
-  pub entries : List Entry
-  pub run : OpenRun kinds net inputs outputs M entries N
-  pub few : length entries ≤ most
-  pub counts : after ≡ counted before entries
-  pub back : IsPause kinds net inputs outputs most (length entries) N pause
+module _ (kinds : Family) (net : Network) (inputs outputs : List ℕ) (before after : Counts) where
+  -- at most `most` entries lead from M to N, they were counted, and the flow returned for this reason
+  pub record Advances (M N : State) (most : ℕ) (pause : Pause) : Type 0 where
+    pub entries : List Entry
+    pub run : OpenRun kinds net inputs outputs M entries N
+    pub few : length entries ≤ most
+    pub counts : after ≡ counted before entries
+    pub back : IsPause kinds net inputs outputs most (length entries) N pause
+
+-- the flow goes on so far, and returns for this reason
+abbrev pub FlowAdvances : Family → FlowView → FlowView → ℕ → Pause → Type 0
+FlowAdvances kinds s t most pause =
+    Advances kinds s.network s.unended s.outputs s.counts t.counts s.state t.state most pause
+
+-- the reader of c wants to read from it, and it is empty
+abbrev pub StarvesReader : Family → FlowView → ℕ → Type 0
+StarvesReader kinds s c = IsStarving kinds s.network s.state (channel_of s.network c).reader c
+
+-- the writer of c wants to write to it, and it is full
+abbrev pub BlocksWriter : Family → FlowView → ℕ → Type 0
+BlocksWriter kinds s c = IsBlocked kinds s.network s.state (channel_of s.network c).writer c
+
+module _ {H : Type 0} (kinds : Family) (net : Network) (inputs outputs : List ℕ) where
+  -- the core goes on so far, with these counts, and returns for this reason
+  abbrev pub CoreAdvances : Counts → Counts → Core H → Core H → ℕ → Pause → Type 0
+  CoreAdvances before after core moved most pause =
+      Advances kinds net inputs outputs before after core.store.state moved.store.state most pause

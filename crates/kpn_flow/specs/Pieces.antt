@@ -1,20 +1,26 @@
 -- A flow that is fed and drained in pieces.
-use Rattle.std.specs.Prelude.{◌≡◌, ℕ, ◌+◌, ◌<◌, ◌≤◌, true, false, List, [], ◌++◌, length}
+use Rattle.std.specs.Prelude.{◌≡◌, ℕ, true, false, List, [], ◌++◌}
 use Rattle.kpn_model.specs.declared.token.Token.{Token}
-use Rattle.kpn_model.specs.Network.{Family, Network, channel_of}
+use Rattle.kpn_model.specs.Network.{Family, Network}
 use Rattle.kpn_model.specs.Semantics.{State, status, tokens, start, IsQuiet, IsBlocked}
-use Rattle.kpn_model.specs.History.{put_on, stream, ArePrefixComparable}
+use Rattle.kpn_model.specs.History.{stream, ArePrefixComparable}
 use Rattle.kpn_laws.specs.StreamsOfRun.{ApproachLeastSolution}
-use Rattle.kpn_flow.specs.Events.{Event, Flows, entries_of, fed, drained}
-use Rattle.kpn_flow.specs.Preloaded.{IsAtEnds, preloaded, without_growths, all_fed, IsOneRun}
+use Rattle.kpn_flow.specs.Events.{Event, Flows, fed, drained}
+use Rattle.kpn_flow.specs.Preloaded.{IsAtEnds, all_fed, fed_ahead, only_deeds, HasRoomForAll, IsOneRun}
 use Rattle.kpn_flow.specs.Flows.{FlowView, is_among, AreEnds}
 
--- the deeds are a run of the network that held all the tokens from the start; its stream on each output is
--- what left it, what is there and what is to come; its streams approach the least solution (Kahn 1974)
-pub record IsOneRunWithStreams (kinds : Family) (net : Network) (outputs : List ℕ) (xs : List Event) (M : State) (later : ℕ → List Token) (sizes : ℕ → ℕ) : Type 0 where
-  pub one : IsOneRun kinds net xs M later sizes
-  pub outputs_are : (c : ℕ) → is_among outputs c ≡ true → stream (preloaded net (all_fed xs later) sizes) (without_growths (entries_of xs)) c ≡ (drained xs c ++ tokens M c) ++ later c
-  pub approach : ApproachLeastSolution kinds (preloaded net (all_fed xs later) sizes) (without_growths (entries_of xs)) one.state
+module _ (kinds : Family) (net : Network) (outputs : List ℕ) (xs : List Event) (M : State) where
+  -- the stream of c is what left it, what is there and what is to come
+  abbrev pub StreamIsGiven : (ℕ → List Token) → (ℕ → ℕ) → ℕ → Type 0
+  StreamIsGiven later sizes c =
+      stream (fed_ahead net xs later sizes) (only_deeds xs) c ≡ (drained xs c ++ tokens M c) ++ later c
+
+  -- the deeds are a run of the network that held all the tokens from the start; its stream on each output is
+  -- what left it, what is there and what is to come; its streams approach the least solution (Kahn 1974)
+  pub record IsOneRunWithStreams (later : ℕ → List Token) (sizes : ℕ → ℕ) : Type 0 where
+    pub one : IsOneRun kinds net xs M later sizes
+    pub outputs_are : (c : ℕ) → is_among outputs c ≡ true → StreamIsGiven later sizes c
+    pub approach : ApproachLeastSolution kinds (fed_ahead net xs later sizes) (only_deeds xs) one.state
 
 -- whatever events led to the flow's state, and whatever is to come, the deeds are a run of the network that
 -- held all those tokens from the start
@@ -23,14 +29,15 @@ IsOneRunInPieces kinds s =
     (xs : List Event) (later : ℕ → List Token) (sizes : ℕ → ℕ)
     → Flows kinds s.network (start kinds s.network) xs s.state → IsAtEnds (is_among s.inputs) (is_among s.outputs) xs
     → ((c : ℕ) → is_among s.inputs c ≡ false → later c ≡ [])
-    → ((c : ℕ) → c < length s.network.channels → length (channel_of s.network c).tokens + length (all_fed xs later c) + length (put_on (entries_of xs) c) ≤ sizes c)
+    → HasRoomForAll s.network xs later sizes
     → IsOneRunWithStreams kinds s.network s.outputs xs s.state later sizes
 
--- a way: events lead to M, and this is to come into the inputs
-pub record IsWay (kinds : Family) (net : Network) (inputs outputs : List ℕ) (xs : List Event) (M : State) (later : ℕ → List Token) : Type 0 where
-  pub flows : Flows kinds net (start kinds net) xs M
-  pub at_ends : IsAtEnds (is_among inputs) (is_among outputs) xs
-  pub later_inputs : (c : ℕ) → is_among inputs c ≡ false → later c ≡ []
+module _ (kinds : Family) (net : Network) (inputs outputs : List ℕ) (xs : List Event) (M : State) where
+  -- a way: events lead to M, and this is to come into the inputs
+  pub record IsWay (later : ℕ → List Token) : Type 0 where
+    pub flows : Flows kinds net (start kinds net) xs M
+    pub at_ends : IsAtEnds (is_among inputs) (is_among outputs) xs
+    pub later_inputs : (c : ℕ) → is_among inputs c ≡ false → later c ≡ []
 
 -- if two ways bring the same into the inputs in the end, what left an output and what is in it is
 -- prefix-comparable

@@ -1,11 +1,15 @@
 -- Processes that wait at the ends of a flow, according to their standings.
 use Rattle.std.specs.Prelude.{ℕ, ◌==◌, ◌&&◌, Bool, true, false, nat_lt, List, Option, Some, None, length}
+use Rattle.std.specs.List.{sum_by}
 use Rattle.kpn_model.specs.declared.kinds.Act.{Act}
 use Rattle.kpn_model.specs.declared.kinds.Act.TheVariants.{Read, Write, Stop}
 use Rattle.kpn_model.specs.Network.{Network, channel_of, in_of, out_of}
 use Rattle.kpn_state.specs.declared.standing.Standing.{Standing}
 use Rattle.kpn_state.specs.declared.standing.Standing.TheVariants.{Ready, Out, Parked, Stopped}
 use Rattle.kpn_state.specs.Standings.{standing}
+
+abbrev pub is_channel : Network → ℕ → Bool
+is_channel net c = nat_lt c (length net.channels)
 
 abbrev pub is_at : ℕ → Option ℕ → Bool
 is_at c None = false
@@ -34,13 +38,21 @@ is_parked_with test Out = false
 is_parked_with test (Parked a) = test a.act
 is_parked_with test Stopped = false
 
+-- p is parked with a read from c
+abbrev pub awaits_token : Network → List Standing → ℕ → ℕ → Bool
+awaits_token net standings c p = is_parked_with (reads_from net c p) (standing standings p)
+
+-- p is parked with a write to c
+abbrev pub awaits_room : Network → List Standing → ℕ → ℕ → Bool
+awaits_room net standings c p = is_parked_with (writes_to net c p) (standing standings p)
+
 -- the reader of c waits for a token in it
 abbrev pub starves : Network → List Standing → ℕ → Bool
-starves net standings c = nat_lt c (length net.channels) && is_parked_with (reads_from net c (channel_of net c).reader) (standing standings (channel_of net c).reader)
+starves net standings c = is_channel net c && awaits_token net standings c (channel_of net c).reader
 
 -- the writer of c waits for room in it
 abbrev pub holds_up : Network → List Standing → ℕ → Bool
-holds_up net standings c = nat_lt c (length net.channels) && is_parked_with (writes_to net c (channel_of net c).writer) (standing standings (channel_of net c).writer)
+holds_up net standings c = is_channel net c && awaits_room net standings c (channel_of net c).writer
 
 -- a process that has stopped or waits for a token
 abbrev pub waits_to_read : Standing → Bool
@@ -54,3 +66,7 @@ is_not_parked Ready = 1
 is_not_parked Out = 1
 is_not_parked (Parked a) = 0
 is_not_parked Stopped = 1
+
+-- how many are not parked
+abbrev pub unparked : List Standing → ℕ
+unparked standings = sum_by is_not_parked standings

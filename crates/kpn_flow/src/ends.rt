@@ -3,7 +3,7 @@ ghost use Rattle.std.specs.Prelude.{◌≡◌, ◌<◌, length, map, None, IfSom
 ghost use Rattle.std.specs.List.{list_any};
 ghost use Rattle.kpn_model.specs.Families.{family};
 ghost use Rattle.kpn_machine.specs.Opening.{cards_of};
-ghost use Rattle.kpn_flow.specs.Ends.{IsFlowFault, stops_at_once, has_live_writer, has_live_reader, is_no_channel, has_twice, end_fault};
+ghost use Rattle.kpn_flow.specs.Ends.{stops_at_once, is_no_channel, has_twice, any_live_writer, any_live_reader, fault_at, IsFaultOf};
 ghost use Rattle.kpn_flow.specs.Flows.{is_among, without};
 
 use kpn_body::Body;
@@ -99,7 +99,7 @@ struct Staffed<'a, B: Body> {
 }
 
 fn any_live_writer<B: Body>(staffed: &Staffed<'_, B>, channels: &[usize]) -> bool
-    ensures { result ≡ list_any (has_live_writer (family B.Kinds.Kinds) staffed.now.net.now (map B.card staffed.now.bodies.now)) channels.now }
+    ensures { result ≡ any_live_writer B.Kinds.Kinds staffed.now.net.now B.card staffed.now.bodies.now channels.now }
 {
     staffed.net.assure_valid();
     let mut rest = channels;
@@ -116,7 +116,7 @@ fn any_live_writer<B: Body>(staffed: &Staffed<'_, B>, channels: &[usize]) -> boo
 }
 
 fn any_live_reader<B: Body>(staffed: &Staffed<'_, B>, channels: &[usize]) -> bool
-    ensures { result ≡ list_any (has_live_reader (family B.Kinds.Kinds) staffed.now.net.now (map B.card staffed.now.bodies.now)) channels.now }
+    ensures { result ≡ any_live_reader B.Kinds.Kinds staffed.now.net.now B.card staffed.now.bodies.now channels.now }
 {
     staffed.net.assure_valid();
     let mut rest = channels;
@@ -137,7 +137,7 @@ fn end_fault<B: Body>(
     inputs: &[usize],
     outputs: &[usize],
 ) -> Option<FlowFault>
-    ensures { result ≡ end_fault (family B.Kinds.Kinds) staffed.now.net.now (map B.card staffed.now.bodies.now) inputs.now outputs.now }
+    ensures { result ≡ fault_at B.Kinds.Kinds staffed.now.net.now B.card staffed.now.bodies.now inputs.now outputs.now }
 {
     let net = staffed.net;
     if any_no_channel(net, inputs) || any_no_channel(net, outputs) {
@@ -162,9 +162,9 @@ pub(crate) fn fault_of<B: Body>(
     inputs: &[usize],
     outputs: &[usize],
 ) -> Option<FlowFault>
-    ensures some { IfSome result (IsFlowFault (family B.Kinds.Kinds) net.now (map B.card bodies.now) inputs.now outputs.now) }
+    ensures some { IfSome result (IsFaultOf B.Kinds.Kinds net.now B.card bodies.now inputs.now outputs.now) }
     ensures cards { IfNone result (map B.card bodies.now ≡ cards_of net.now.processes) }
-    ensures none { IfNone result (end_fault (family B.Kinds.Kinds) net.now (map B.card bodies.now) inputs.now outputs.now ≡ None) }
+    ensures none { IfNone result (fault_at B.Kinds.Kinds net.now B.card bodies.now inputs.now outputs.now ≡ None) }
 {
     match misfit(net, bodies) {
         Some(OpenFault::Bodies) => Some(FlowFault::Bodies),

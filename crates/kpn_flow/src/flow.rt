@@ -1,19 +1,17 @@
 //! The flow.
-ghost use Rattle.std.specs.Prelude.{◌≡◌, ◌↔◌, ℕ, ◌<◌, length, map, replicate, IfOk, IfErr, OnOk, IsTrue, true, false};
+ghost use Rattle.std.specs.Prelude.{◌≡◌, ◌↔◌, ℕ, ◌<◌, length, map, IfOk, IfErr, OnOk, IsTrue, true, false};
 ghost use Rattle.std.specs.List.{list_all};
-ghost use Rattle.kpn_model.specs.Network.{channel_of};
 ghost use Rattle.kpn_model.specs.Families.{family};
-ghost use Rattle.kpn_model.specs.Semantics.{start, tokens, capacity, wants, IsBlocked, IsEnabled};
+ghost use Rattle.kpn_model.specs.Semantics.{tokens, capacity};
 ghost use Rattle.kpn_model.specs.Valid.{IsOfSort};
-ghost use Rattle.kpn_state.specs.declared.standing.Standing.TheVariants.{Ready};
-ghost use Rattle.kpn_state.specs.Standings.{standing, is_busy, parked_answer};
 ghost use Rattle.kpn_machine.specs.Opening.{cards_of};
-ghost use Rattle.kpn_flow.specs.Ends.{AreApart, IsFlowFault};
-ghost use Rattle.kpn_flow.specs.Flows.{flow_view, fill, is_among, nothing_counted, with_ended, AreEnds, IsReached, IsSameFlow, MayFeed, MayFeedAll};
+ghost use Rattle.kpn_machine.specs.MachineView.{WantAsAnswered};
+ghost use Rattle.kpn_flow.specs.Ends.{AreApart, RefusesFlow};
+ghost use Rattle.kpn_flow.specs.Flows.{flow_view, fill, is_among, with_ended, AreEnds, IsSameFlow, MayFeed, MayFeedAll, opened_flow, EnabledAreBusy, FlowIsReached};
 ghost use Rattle.kpn_flow.specs.Moves.{Feeds, FeedsAll, DrainsOne, DrainsInto};
-ghost use Rattle.kpn_flow.specs.Pauses.{Advances, IsStarving, TellWants};
+ghost use Rattle.kpn_flow.specs.Pauses.{TellWants, StarvesReader, BlocksWriter, FlowAdvances};
 ghost use Rattle.kpn_flow.specs.Pieces.{IsOneRunInPieces, IsExhausted};
-ghost use Rattle.kpn_flow.specs.Stands.{IsStand};
+ghost use Rattle.kpn_flow.specs.Stands.{FlowStands};
 ghost use Rattle.kpn_flow.specs.Waits.{starves, holds_up, waits_to_read};
 
 use crate::counts::Counts;
@@ -105,13 +103,13 @@ impl<B: Body> Flow<B> {
         inputs: &[usize],
         outputs: &[usize],
     ) -> Result<Flow<B>, FlowRefused<B>>
-        ensures opened { IfOk result (λ m. m ≡ flow_view net (start (family B.Kinds.Kinds) net) (replicate (length net.processes) Ready) inputs.now inputs.now outputs.now nothing_counted) }
+        ensures opened { IfOk result (λ m. m ≡ opened_flow (family B.Kinds.Kinds) net inputs.now outputs.now) }
         ensures cards { OnOk result (map B.card bodies.items ≡ cards_of net.processes) }
         ensures ends { OnOk result (AreEnds (family B.Kinds.Kinds) net inputs.now outputs.now) }
         ensures apart { OnOk result (AreApart inputs.now outputs.now) }
         ensures net_back { IfErr result (λ refused. refused.net ≡ net) }
         ensures bodies_back { IfErr result (λ refused. refused.bodies.items ≡ bodies.items) }
-        ensures fault { IfErr result (λ refused. IsFlowFault (family B.Kinds.Kinds) net (map B.card bodies.items) inputs.now outputs.now refused.fault) }
+        ensures fault { IfErr result (RefusesFlow B.Kinds.Kinds net B.card bodies.items inputs.now outputs.now) }
     {
         if let Some(fault) = fault_of(&net, bodies.as_slice(), inputs, outputs) {
             return Err(FlowRefused { net, bodies, fault });
@@ -218,7 +216,7 @@ impl<B: Body> Flow<B> {
     /// finds the input to feed.
     pub fn is_starved(&self, channel: usize) -> bool
         ensures parked { result ≡ starves self.now.network self.now.standings channel }
-        ensures starving { IsTrue result → IsStarving (family B.Kinds.Kinds) self.now.network self.now.state (channel_of self.now.network channel).reader channel }
+        ensures starving { IsTrue result → StarvesReader (family B.Kinds.Kinds) self.now channel }
     {
         starves(&self.net, self.core.standings.as_slice(), channel)
     }
@@ -227,7 +225,7 @@ impl<B: Body> Flow<B> {
     /// finds the output to drain.
     pub fn is_held_up(&self, channel: usize) -> bool
         ensures parked { result ≡ holds_up self.now.network self.now.standings channel }
-        ensures blocked { IsTrue result → IsBlocked (family B.Kinds.Kinds) self.now.network self.now.state (channel_of self.now.network channel).writer channel }
+        ensures blocked { IsTrue result → BlocksWriter (family B.Kinds.Kinds) self.now channel }
     {
         holds_up(&self.net, self.core.standings.as_slice(), channel)
     }
@@ -278,7 +276,7 @@ impl<B: Body> Flow<B> {
     /// self.flow.stand()
     /// ```
     pub fn stand(&self) -> Pause
-        ensures { IsStand (family B.Kinds.Kinds) self.now.network self.now.unended self.now.outputs self.now.state self.now.standings result }
+        ensures { FlowStands (family B.Kinds.Kinds) self.now result }
     {
         let inputs = self.unended.as_slice();
         stand(&self.net, &self.core, inputs, self.outputs.as_slice())
@@ -286,8 +284,8 @@ impl<B: Body> Flow<B> {
 
     /// Ghost lemma: a process that is neither ready nor out wants what it answered, and can't do it.
     pub fn assure_standings(&self)
-        ensures wanted { (p : ℕ) → is_busy (standing self.now.standings p) ≡ false → wants (family B.Kinds.Kinds) self.now.network self.now.state p ≡ parked_answer (standing self.now.standings p) }
-        ensures busy { (p : ℕ) → IsEnabled (family B.Kinds.Kinds) self.now.network self.now.state p → is_busy (standing self.now.standings p) ≡ true }
+        ensures wanted { WantAsAnswered (family B.Kinds.Kinds) self.now.network self.now.state self.now.standings }
+        ensures busy { EnabledAreBusy (family B.Kinds.Kinds) self.now }
     {
         let _ = &self.net;
     }
@@ -300,7 +298,7 @@ impl<B: Body> Flow<B> {
     pub fn assure_one_run(&self)
         ensures ends { AreEnds (family B.Kinds.Kinds) self.now.network self.now.inputs self.now.outputs }
         ensures unended { (c : ℕ) → is_among self.now.unended c ≡ true → is_among self.now.inputs c ≡ true }
-        ensures reached { IsReached (family B.Kinds.Kinds) self.now.network self.now.inputs self.now.outputs self.now.counts self.now.state }
+        ensures reached { FlowIsReached (family B.Kinds.Kinds) self.now }
         ensures one_run { IsOneRunInPieces (family B.Kinds.Kinds) self.now }
     {
         let _ = &self.net;
@@ -319,7 +317,7 @@ impl<B: Body> Flow<B> {
     /// ```
     pub fn advance(&mut self, most: u64) -> Pause
         ensures same { IsSameFlow self.old self.new }
-        ensures advances { Advances (family B.Kinds.Kinds) self.old.network self.old.unended self.old.outputs self.old.counts self.new.counts self.old.state self.new.state most result }
+        ensures advances { FlowAdvances (family B.Kinds.Kinds) self.old self.new most result }
         ensures told { TellWants (family B.Kinds.Kinds) self.new.network self.new.state self.new.standings result }
     {
         go_on(

@@ -2,7 +2,7 @@
 ghost use Rattle.std.specs.Prelude.{◌≡◌, ◌≤◌, ◌+◌, map, option_map};
 ghost use Rattle.kpn_model.specs.Families.{family};
 ghost use Rattle.kpn_flow.specs.Flows.{IsSettled, HasAllBodies};
-ghost use Rattle.kpn_flow.specs.Pauses.{Advances, TellWants};
+ghost use Rattle.kpn_flow.specs.Pauses.{TellWants, CoreAdvances};
 
 use crate::counts::Counts;
 use crate::pause::Pause;
@@ -43,7 +43,7 @@ pub(crate) fn go_on<B: Body>(
     requires room { 1048576 ≤ core.old.store.limit }
     ensures settled { IsSettled (family B.Kinds.Kinds) B.Kinds.admits net.now core.new }
     ensures limit { core.new.store.limit ≡ core.old.store.limit }
-    ensures advances { Advances (family B.Kinds.Kinds) net.now inputs.now outputs.now counts.old counts.new core.old.store.state core.new.store.state most result }
+    ensures advances { CoreAdvances (family B.Kinds.Kinds) net.now inputs.now outputs.now counts.old counts.new core.old core.new most result }
     ensures told { TellWants (family B.Kinds.Kinds) net.now core.new.store.state core.new.standings result }
 {
     let mut done = 0;

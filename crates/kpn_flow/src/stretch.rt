@@ -1,12 +1,12 @@
 //! One stretch of a flow.
-ghost use Rattle.std.specs.Prelude.{◌≡◌, ◌+◌, ◌≤◌, [], map, option_map, false, IfSome, IfNone};
+ghost use Rattle.std.specs.Prelude.{◌≡◌, ◌+◌, ◌≤◌, [], false, IfSome, IfNone};
 ghost use Rattle.std.specs.List.{list_any};
 ghost use Rattle.kpn_model.specs.Families.{family};
 ghost use Rattle.kpn_state.specs.declared.standing.Standing.TheVariants.{Ready};
 ghost use Rattle.kpn_state.specs.Standings.{standing, is_busy};
 ghost use Rattle.kpn_flow.specs.Flows.{IsSettled};
 ghost use Rattle.kpn_flow.specs.Pauses.{IsAwaited};
-ghost use Rattle.kpn_flow.specs.Stretches.{MayStretch, Stretches};
+ghost use Rattle.kpn_flow.specs.Stretches.{Stretches, MayStretchFrom, StretchesTo};
 ghost use Rattle.kpn_flow.specs.Waits.{holds_up, starves};
 
 use crate::pause::Pause;
@@ -78,8 +78,8 @@ pub(crate) fn stretch<B: Body>(
     again: &mut Option<usize>,
     until: usize,
 ) -> Option<Pause>
-    requires { MayStretch (family B.Kinds.Kinds) B.Kinds.admits net.now core.old (map (option_map B.card) bodies.now) again.old until }
-    ensures stretches { Stretches (family B.Kinds.Kinds) B.Kinds.admits net.now inputs.now outputs.now core.old (until + 1) result core.new }
+    requires { MayStretchFrom B.Kinds.Kinds net.now core.old B.card bodies.now again.old until }
+    ensures stretches { StretchesTo B.Kinds.Kinds net.now inputs.now outputs.now core.old (until + 1) result core.new }
     ensures again { IfSome again.new (λ p. standing core.new.standings p ≡ Ready) }
 {
     core.store.forget();

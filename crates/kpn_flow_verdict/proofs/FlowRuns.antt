@@ -1,16 +1,15 @@
 -- Event by event, what is dry in a flow stays so.
-use Rattle.std.proofs.Common.{◌≡◌, ◌≢◌, ◌<◌, ⊎_elim, ℕ, Bool, true, false, List, [], ◌∷◌, ◌++◌, length, get_or, Option, Some, None, refl, sym, ap, ◌∙◌, subst, ne_eqb, cond, drop}
+use Rattle.std.proofs.Common.{◌≡◌, ◌≢◌, ◌<◌, ⊎_elim, ℕ, Bool, true, false, List, [], ◌∷◌, ◌++◌, length, get_or, Some, None, refl, sym, ap, ◌∙◌, subst, ne_eqb, cond, drop}
 use Rattle.std.proofs.lemmas.Bool.{cases_lt, cases_eq}
 use Rattle.std.proofs.lemmas.List.{set_past}
 use Rattle.kpn_model.specs.declared.token.Token.{Token}
-use Rattle.kpn_model.specs.declared.kinds.Act.{Act}
 use Rattle.kpn_model.specs.declared.kinds.Act.TheVariants.{Read}
 use Rattle.kpn_model.specs.declared.kinds.Answer.{Answer}
 use Rattle.kpn_model.specs.declared.history.Deed.{Deed}
 use Rattle.kpn_model.specs.declared.history.Deed.TheVariants.{Took, Put, Stopped}
 use Rattle.kpn_model.specs.declared.history.Entry.TheVariants.{Did, Grew}
 use Rattle.kpn_model.specs.declared.history.Status.TheVariants.{Done, Live}
-use Rattle.kpn_model.specs.Network.{Family, Network, channel_of, in_of, out_of}
+use Rattle.kpn_model.specs.Network.{Family, Network, channel_of, in_of}
 use Rattle.kpn_model.specs.Semantics.{Held, State, nothing_held, status, tokens, capacity, answered, wants, with_status, with_channel, after_deed, IsDeed, Does}
 use Rattle.kpn_model.specs.History.{deeds, put_on}
 use Rattle.kpn_laws.proofs.States.{out_of-writer, tokens_set_same, tokens_set_other}
@@ -19,8 +18,8 @@ use Rattle.kpn_flow.specs.Events.{Event, Went, Fed, Drained, Flows, Happens, ent
 use Rattle.kpn_flow.specs.Flows.{is_among}
 use Rattle.kpn_flow.specs.Pauses.{NoneCanHelp}
 use Rattle.kpn_flow.specs.Preloaded.{IsAtEnds}
-use Rattle.kpn_dry.specs.Dry.{IsComplete, IsDry, stopped, waits}
-use Rattle.kpn_flow_verdict.specs.FlowDry.{CompleteStaysInFlow, DryStaysDryInFlow, GoesOn}
+use Rattle.kpn_dry.specs.Dry.{IsDry, stopped, waits}
+use Rattle.kpn_flow_verdict.specs.FlowDry.{CompleteStaysInFlow, DryStaysDryInFlow}
 
 -- a channel that holds a token is not empty
 not_empty : (ts rest : List Token) (t : Token) → ts ≡ t ∷ rest → ts ≡ [] → ⊥

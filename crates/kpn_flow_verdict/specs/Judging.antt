@@ -50,3 +50,7 @@ AreWhole kinds s =
     NoneCanHelp kinds s.network s.unended s.outputs s.state → (c : ℕ) → is_among s.outputs c ≡ true
     → (xs : List Event) (N : State) → GoesOn kinds s.network s.unended s.outputs s.state xs N
     → put_on (entries_of xs) c ≡ []
+
+-- so it is if the verdict at the ceiling is `ran dry`
+abbrev pub AreWholeIfDry : Family → FlowView → End → Verdict → Type 0
+AreWholeIfDry kinds s end verdict = verdict ≡ RanDry → end ≡ Ceiling → AreWhole kinds s

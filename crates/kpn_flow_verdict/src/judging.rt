@@ -2,8 +2,7 @@
 ghost use Rattle.std.specs.Prelude.{◌≡◌, ◌++◌, true, false, IfOk, OnOk, string_bytes};
 ghost use Rattle.kpn_model.specs.Families.{family};
 ghost use Rattle.kpn_model.specs.declared.history.End.TheVariants.{Ceiling};
-ghost use Rattle.kpn_model.specs.declared.verdict.Verdict.TheVariants.{RanDry};
-ghost use Rattle.kpn_flow_verdict.specs.Judging.{AreWhole, HasAll, IsJudged, active_part, judged_text, places_in};
+ghost use Rattle.kpn_flow_verdict.specs.Judging.{HasAll, IsJudged, active_part, judged_text, places_in, AreWholeIfDry};
 
 use crate::law::flow_dryness;
 use kpn_body::Body;
@@ -27,7 +26,7 @@ pub struct Judged {
 pub fn judge<B: Body>(alloc: Global, flow: &Flow<B>, end: End) -> Result<Judged, AllocError>
     ensures verdict { IfOk result (λ judged. IsJudged flow.now end judged.verdict) }
     ensures text { IfOk result (λ judged. string_bytes judged.text ≡ judged_text flow.now end judged.verdict) }
-    ensures whole { IfOk result (λ judged. judged.verdict ≡ RanDry → end ≡ Ceiling → AreWhole (family B.Kinds.Kinds) flow.now) }
+    ensures whole { IfOk result (λ judged. AreWholeIfDry (family B.Kinds.Kinds) flow.now end judged.verdict) }
 {
     flow_dryness();
     flow.assure_one_run();

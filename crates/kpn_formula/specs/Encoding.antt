@@ -55,3 +55,7 @@ pub record IsCardOf (shape : Shape) (round opening : List Instruction) (card : C
 abbrev pub IsExcess : Shape → ℕ → Excess → Type 0
 IsExcess shape needed NotAllowed = is_allowed shape ≡ false
 IsExcess shape needed (Digits by) = (is_allowed shape ≡ true) × (0 < by) × (36 + by ≡ needed)
+
+-- why no card of this shape has these programs
+abbrev pub HasExcess : Shape → List Instruction → List Instruction → Excess → Type 0
+HasExcess shape round opening excess = IsExcess shape (digits_needed round opening) excess

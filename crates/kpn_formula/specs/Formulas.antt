@@ -16,9 +16,12 @@ part start n words i = if nat_lt i n then at words (start + i) else 0
 abbrev pub value : ℕ → ℕ → ℕ → List ℕ → List ℕ → ℕ → ℕ
 value k m n kept inputs i = if nat_lt i (k + m) then part 0 k kept i else part 0 n inputs (i - (k + m))
 
+-- what f gives for the numbers below six
+abbrev pub six_of : (ℕ → ℕ) → List ℕ
+six_of f = f 0 ∷ f 1 ∷ f 2 ∷ f 3 ∷ f 4 ∷ f 5 ∷ []
+
 abbrev pub values : ℕ → ℕ → ℕ → List ℕ → List ℕ → List ℕ
-values k m n kept inputs =
-    value k m n kept inputs 0 ∷ value k m n kept inputs 1 ∷ value k m n kept inputs 2 ∷ value k m n kept inputs 3 ∷ value k m n kept inputs 4 ∷ value k m n kept inputs 5 ∷ []
+values k m n kept inputs = six_of (λ i. value k m n kept inputs i)
 
 -- what is kept of values: k states
 abbrev pub states_in : ℕ → List ℕ → List ℕ
@@ -28,20 +31,27 @@ states_in k words = part 0 k words 0 ∷ part 0 k words 1 ∷ part 0 k words 2 �
 abbrev pub outputs_in : ℕ → ℕ → List ℕ → List ℕ
 outputs_in k m words = part k m words 0 ∷ part k m words 1 ∷ part k m words 2 ∷ []
 
+-- what is kept and what is made: k states, and the m outputs behind them
+abbrev pub results_in : ℕ → ℕ → List ℕ → List ℕ × List ℕ
+results_in k m words = (states_in k words, outputs_in k m words)
+
 abbrev pub start : Card → List ℕ
 start card = states_in (states_of card.kind) (values_after (opening_of card) (0 ∷ 0 ∷ 0 ∷ 0 ∷ 0 ∷ 0 ∷ []))
 
--- the values after a round
+-- the values before a round, and after it
+abbrev pub values_before : Card → List ℕ → List ℕ → List ℕ
+values_before card kept inputs = values (states_of card.kind) (outputs_of card.kind) (inputs_of card.kind) kept inputs
+
 abbrev pub round_values : Card → List ℕ → List ℕ → List ℕ
-round_values card kept inputs = values_after (round_of card) (values (states_of card.kind) (outputs_of card.kind) (inputs_of card.kind) kept inputs)
+round_values card kept inputs = values_after (round_of card) (values_before card kept inputs)
 
 abbrev pub step : Card → List ℕ → List ℕ → List ℕ × List ℕ
-step card kept inputs = (states_in (states_of card.kind) (round_values card kept inputs), outputs_in (states_of card.kind) (outputs_of card.kind) (round_values card kept inputs))
+step card kept inputs = results_in (states_of card.kind) (outputs_of card.kind) (round_values card kept inputs)
 
 -- what a program keeps and makes of words that were kept and read
 abbrev pub results : Card → List Instruction → List ℕ → List ℕ → List ℕ × List ℕ
 results card program kept inputs =
-    let after = values_after program (values (states_of card.kind) (outputs_of card.kind) (inputs_of card.kind) kept inputs) in
+    let after = values_after program (values_before card kept inputs) in
     (states_in (states_of card.kind) after, outputs_in (states_of card.kind) (outputs_of card.kind) after)
 
 abbrev pub kind_name : ℕ → List ℕ

@@ -2,13 +2,19 @@
 use Rattle.std.specs.Prelude.{◌≡◌, ℕ, zero, suc, ◌+◌, ◌-◌, ◌/◌, ◌<◌, ◌≤◌, List, ◌∷◌, [], take, drop, set}
 use Rattle.kpn_model.specs.declared.kinds.Card.{Card}
 use Rattle.kpn_standard.specs.Locals.{at}
-use Rattle.kpn_formula.specs.Programs.{Working, last, values_after}
-use Rattle.kpn_formula.specs.Cards.{before_end}
-use Rattle.kpn_formula.specs.Reading.{program_at, HoldsFrom, behind_operands}
+use Rattle.kpn_formula.specs.declared.instruction.Instruction.{Instruction}
+use Rattle.kpn_formula.specs.declared.running.Stack.{Stack}
+use Rattle.kpn_formula.specs.Programs.{Working, executed, last, values_after}
+use Rattle.kpn_formula.specs.Cards.{before_end, instruction}
+use Rattle.kpn_formula.specs.Reading.{program_at, first_three, HoldsFrom, behind_operands}
 
 -- the first six values, and the word v above those that stand in an array from a place on
 abbrev pub working : List ℕ → ℕ → List ℕ → ℕ → Working
 working words top values v = record { values = take 6 values; stack = v ∷ drop top words }
+
+-- the first six values, and what a stack holds in an array
+abbrev pub held_in : List ℕ → Stack → List ℕ → Working
+held_in words stack values = working words stack.top values stack.last
 
 -- from a place on there are zeros
 abbrev pub AreZeros : ℕ → List ℕ → Type 0
@@ -30,6 +36,15 @@ pub record PushesOne (size before : ℕ) (words : List ℕ) (top : ℕ) : Type 0
 pub record IsSame (w v : Working) : Type 0 where
   pub values : w.values ≡ v.values
   pub stack : (k : ℕ) → last w k ≡ last v k
+
+-- the instruction leads from these words, stack and values to the new ones
+abbrev pub ExecutesTo : Instruction → List ℕ → Stack → List ℕ → List ℕ → Stack → List ℕ → Type 0
+ExecutesTo i words stack values new_words new_stack new_values =
+    IsSame (executed i (held_in words stack values)) (held_in new_words new_stack new_values)
+
+-- the instruction of a code, with the operands behind it
+abbrev pub decoded : ℕ → ℕ → Instruction
+decoded code cursor = instruction code (first_three (cursor / 32))
 
 -- the digits behind an instruction, but an End is not passed
 abbrev pub passed : ℕ → ℕ → ℕ

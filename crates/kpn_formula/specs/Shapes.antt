@@ -37,8 +37,14 @@ inputs_of kind = kind / 8 % 4
 abbrev pub outputs_of : ℕ → ℕ
 outputs_of kind = kind / 32 % 4
 
+abbrev pub in_ports_of : ℕ → List (Option Sort)
+in_ports_of kind = ports_of (inputs_of kind) (kind / 128 % 8)
+
+abbrev pub out_ports_of : ℕ → List (Option Sort)
+out_ports_of kind = ports_of (outputs_of kind) (kind / 1024 % 8)
+
 abbrev pub shape_numbered : ℕ → Shape
-shape_numbered kind = record { states = states_of kind; ins = ports_of (inputs_of kind) (kind / 128 % 8); outs = ports_of (outputs_of kind) (kind / 1024 % 8) }
+shape_numbered kind = record { states = states_of kind; ins = in_ports_of kind; outs = out_ports_of kind }
 
 -- for how many states there is room beside n inputs and m outputs
 abbrev pub most_states : ℕ → ℕ → ℕ

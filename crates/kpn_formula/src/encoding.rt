@@ -1,6 +1,6 @@
 //! Cards that hold given programs.
 ghost use Rattle.std.specs.Prelude.{◌≡◌, ◌<◌, ◌≤◌, ◌+◌, ◌-◌, ◌^◌, ℕ, List, [], ◌∷◌, ◌++◌, All, length, take, drop, replicate, MatchResult};
-ghost use Rattle.kpn_formula.specs.Encoding.{AreEncodable, IsEncodable, IsCardOf, IsExcess, digits_needed, opening_size, size, width};
+ghost use Rattle.kpn_formula.specs.Encoding.{AreEncodable, IsEncodable, IsCardOf, opening_size, size, width, HasExcess};
 ghost use Rattle.kpn_formula.specs.Spelling.{IsDigit, code_of, spelled, spelling, short_digits, packed, args_of, filled, opening_digits};
 
 use crate::instruction::{Instruction, Operation};
@@ -167,7 +167,7 @@ fn code_of(op: Operation) -> u64
 pub fn card_of(shape: Shape, round: &[Instruction], opening: &[Instruction]) -> Result<Card, Excess>
     requires round { AreEncodable round.now }
     requires opening { AreEncodable opening.now }
-    ensures { MatchResult result (IsCardOf shape round.now opening.now) (IsExcess shape (digits_needed round.now opening.now)) }
+    ensures { MatchResult result (IsCardOf shape round.now opening.now) (HasExcess shape round.now opening.now) }
 {
     let Some(kind) = shape.number() else {
         return Err(Excess::NotAllowed);

@@ -1,7 +1,7 @@
 //! The kinds of formulas.
 ghost use Rattle.std.specs.Prelude.{◌≡◌, ◌≢◌, ◌<◌, ◌≤◌, ◌+◌, ◌^◌, ℕ, take, decimal, IsSome, MatchOption};
 ghost use Rattle.kpn_formula.specs.Cards.{before_end};
-ghost use Rattle.kpn_formula.specs.Formulas.{kind_name, named, outputs_in, results, start, states_in, step};
+ghost use Rattle.kpn_formula.specs.Formulas.{kind_name, named, results, start, step, results_in};
 ghost use Rattle.kpn_formula.specs.Running.{begun, cleared, laid};
 ghost use Rattle.kpn_formula.specs.Reading.{program_at};
 ghost use Rattle.kpn_formula.specs.Shapes.{inputs_of, outputs_of, ports, states_of};
@@ -79,7 +79,7 @@ fn begin(counts: Counts, values: &mut [u64; 16], inputs: [u64; 3])
 #[inline(always)]
 fn results(counts: Counts, values: &mut [u64; 16]) -> (Local, [u64; 3])
     requires { counts.states + counts.outputs ≤ 6 }
-    ensures { result ≡ (states_in counts.states (take 6 values.old), outputs_in counts.states counts.outputs (take 6 values.old)) }
+    ensures { result ≡ results_in counts.states counts.outputs (take 6 values.old) }
 {
     let states = counts.states;
     lay(values, states + counts.outputs, [0; 3]);

@@ -1,10 +1,10 @@
 //! Runs the programs of cards.
-ghost use Rattle.std.specs.Prelude.{true, ◌≡◌, ◌<◌, ◌≤◌, ◌+◌, ◌-◌, ◌*◌, ◌/◌, ◌^◌, ◌==◌, set, min, not};
+ghost use Rattle.std.specs.Prelude.{true, ◌≡◌, ◌<◌, ◌≤◌, ◌+◌, ◌-◌, ◌*◌, ◌^◌, ◌==◌, set, min, not};
 ghost use Rattle.kpn_standard.specs.Locals.{at};
-ghost use Rattle.kpn_formula.specs.Programs.{executed, chosen};
+ghost use Rattle.kpn_formula.specs.Programs.{chosen};
 ghost use Rattle.kpn_formula.specs.Cards.{after_end, instruction};
-ghost use Rattle.kpn_formula.specs.Reading.{IsReadable, first_three, program_at};
-ghost use Rattle.kpn_formula.specs.Running.{HasRoom, IsSame, PushesOne, RunsFrom, passed, working};
+ghost use Rattle.kpn_formula.specs.Reading.{IsReadable, program_at};
+ghost use Rattle.kpn_formula.specs.Running.{HasRoom, PushesOne, RunsFrom, passed, ExecutesTo, decoded};
 
 use crate::instruction::Instruction::{self, Apply};
 use crate::instruction::Operation;
@@ -67,7 +67,7 @@ impl Stack {
     ) -> bool
         requires readable { IsReadable instruction }
         requires stack { HasRoom N words.old self.old.top }
-        ensures is { IsSame (executed instruction (working words.old self.old.top values.old self.old.last)) (working words.new self.new.top values.new self.new.last) }
+        ensures is { ExecutesTo instruction words.old self.old values.old words.new self.new values.new }
         ensures stack { PushesOne N self.old.top words.new self.new.top }
         ensures goes_on { result ≡ true }
     {
@@ -107,7 +107,7 @@ impl Stack {
     ) -> bool
         requires code { code < 32 }
         requires stack { HasRoom N words.old self.old.top }
-        ensures is { IsSame (executed (instruction code (first_three (cursor.old / 32))) (working words.old self.old.top values.old self.old.last)) (working words.new self.new.top values.new self.new.last) }
+        ensures is { ExecutesTo (decoded code cursor.old) words.old self.old values.old words.new self.new values.new }
         ensures rest { cursor.new ≡ passed code cursor.old }
         ensures stack { PushesOne N self.old.top words.new self.new.top }
         ensures goes_on { result ≡ not (code == 0) }

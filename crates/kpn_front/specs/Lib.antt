@@ -1,3 +1,4 @@
+pub mod Names
 pub mod Statuses
 pub mod Lines
 pub mod Loading

@@ -7,9 +7,13 @@ use Rattle.kpn_model.specs.Network.{Network}
 use Rattle.kpn_front.specs.declared.status.ExitStatus.{ExitStatus}
 use Rattle.kpn_front.specs.declared.status.ExitStatus.TheVariants.{Refused, MemoryRefused}
 
+-- how many channels the network has
+abbrev pub channels_counted : Network → List ℕ
+channels_counted net = decimal (length net.channels) ++ codes " channels\n"
+
 -- written about a network that is accepted
 abbrev pub checked_line : Network → List ℕ
-checked_line net = codes "ok " ++ (decimal (length net.processes) ++ (codes " processes " ++ (decimal (length net.channels) ++ codes " channels\n")))
+checked_line net = codes "ok " ++ (decimal (length net.processes) ++ (codes " processes " ++ channels_counted net))
 
 -- written about a description that is refused
 abbrev pub refused_line : NetFault → List ℕ

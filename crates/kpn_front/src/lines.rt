@@ -1,9 +1,8 @@
 //! The lines about a description or a run, and their exit statuses.
 ghost use Rattle.std.specs.Prelude.{◌≡◌, ◌≢◌, ◌≤◌, ◌+◌, ◌++◌, true, OnOk, IsOk, decimal, length};
 ghost use Rattle.arrayvec.specs.ArrayString.{array_string_len};
-ghost use Rattle.std.specs.Io.KnownBytes.{Appends};
 ghost use Rattle.kpn_front.specs.Lines.{checked_line, lost_line, refused_line, no_channel_line, status_of_fault};
-ghost use Rattle.kpn_front.specs.Written.{Says};
+ghost use Rattle.kpn_front.specs.Written.{Says, AppendsTo};
 
 use crate::status::ExitStatus;
 use crate::streams::Sink;
@@ -65,7 +64,7 @@ pub fn say_no_channel<S: Sink>(name: &str, sink: &mut S) -> u8
 
 /// In three parts, since a name may have any length.
 fn write_no_channel<S: Sink>(name: &str, sink: &mut S) -> io::Result<()>
-    ensures bytes { OnOk result (Appends (S.seen sink.old).contents (S.seen sink.new).contents (no_channel_line name.now)) }
+    ensures bytes { OnOk result (AppendsTo (S.seen sink.old) (S.seen sink.new) (no_channel_line name.now)) }
     ensures room { (S.seen sink.old).takes (length (no_channel_line name.now)) ≡ true → IsOk result }
 {
     sink.write_all(b"no channel ")?;

@@ -1,6 +1,6 @@
 //! Reads a network from a source.
-ghost use Rattle.std.specs.Prelude.{◌≡◌, ◌≢◌, false, ◌≤◌, ◌<◌, ◌+◌, ◌⊎◌, true, IsTrue, IfOk, IfErr, IfSome, length};
-ghost use Rattle.kpn_front.specs.Loading.{Loads, LoadsFrom, ReadsFrom, longest, without_text, IsTextOf};
+ghost use Rattle.std.specs.Prelude.{◌≡◌, ◌≢◌, false, ◌≤◌, ◌<◌, ◌+◌, ◌⊎◌, IsTrue, IfOk, IfErr, IfSome};
+ghost use Rattle.kpn_front.specs.Loading.{Loads, LoadsFrom, ReadsFrom, longest, IsTextOf, CannotBeRead, IsAllLeft, LoadsNet};
 
 use crate::streams::Source;
 use kpn_model::limits::LONGEST_TEXT;
@@ -29,7 +29,7 @@ pub fn load<K: Kinds, S: Source>(alloc: Global, source: &mut S) -> Result<Net<K>
 
 /// Loads a network like `load`, and returns a refused description's text, too.
 pub fn load_or_refuse<K: Kinds, S: Source>(alloc: Global, source: &mut S) -> Result<Net<K>, Refused>
-    ensures loaded { LoadsFrom (Loads K.named K.signature) S.is_steady S.has_failed S.remaining source.old source.new (without_text result) }
+    ensures loaded { LoadsNet K.named K.signature S.is_steady S.has_failed S.remaining source.old source.new result }
     ensures text { IfSome (S.remaining source.old) (λ text. IfErr result (IsTextOf text)) }
 {
     let text = match read_text(alloc, source) {
@@ -54,8 +54,8 @@ pub fn load_or_refuse<K: Kinds, S: Source>(alloc: Global, source: &mut S) -> Res
 /// Errors: `Input` if a read fails or there are more bytes; `Memory` if out of memory. The bytes read are
 /// consumed.
 pub fn read_text<S: Source>(alloc: Global, source: &mut S) -> Result<Vec<u8>, NetFault>
-    ensures ok { IfOk result (λ t. (length t.items ≤ longest) × IfSome (S.remaining source.old) (λ text. t.items ≡ text)) }
-    ensures input { result ≡ Err NetFault.Input → (S.has_failed source.new ≡ true) ⊎ IfSome (S.remaining source.old) (λ text. longest < length text) }
+    ensures ok { IfOk result (λ t. IsAllLeft (S.remaining source.old) t.items) }
+    ensures input { result ≡ Err NetFault.Input → CannotBeRead (S.has_failed source.new) (S.remaining source.old) }
     ensures fault { IfErr result (λ e. (e ≡ NetFault.Input) ⊎ (e ≡ NetFault.Memory)) }
     ensures failed { result ≢ Err NetFault.Input → S.has_failed source.new ≡ S.has_failed source.old }
     ensures source { ReadsFrom S.is_steady S.has_failed S.remaining source.old source.new }

@@ -2,7 +2,7 @@
 ghost use Rattle.std.specs.Prelude.{◌||◌, not, is_ok, ◌≡◌, ◌+◌, ℕ, Bool, true, false, List, Option, Some, OnOk, IsOk, length, vec_len, vec_capacity, nat_le};
 ghost use Rattle.std.specs.Io.{ReadsAtMost};
 ghost use Rattle.std.specs.Io.KnownBytes.{ReadConsumes, Appends};
-ghost use Rattle.kpn_front.specs.Written.{SinkView};
+ghost use Rattle.kpn_front.specs.Written.{SinkView, LeavesRoom};
 
 use std::io;
 use std::io::{Read, Write};
@@ -34,7 +34,7 @@ pub trait Sink {
     fn write_all(&mut self, bytes: &[u8]) -> io::Result<()>
         ensures bytes { OnOk result (Appends (seen self.old).contents (seen self.new).contents bytes.now) }
         ensures room { (seen self.old).takes (length bytes.now) ≡ true → IsOk result }
-        ensures left { (n : ℕ) → (seen self.old).takes (length bytes.now + n) ≡ true → IsOk result × ((seen self.new).takes n ≡ true) };
+        ensures left { LeavesRoom (seen self.old) (seen self.new) (length bytes.now) result };
 }
 
 /// A reader or writer that may fail at any time, like a file or a terminal. Remembers whether a read has

@@ -44,11 +44,15 @@ module _ (kinds : Family) (net : Network) where
   IsDeedAlone T p ds (Write k w) (Put c t) = (out_of net p k ≡ Some c) × (t ≡ w)
   IsDeedAlone T p ds a d = ⊥
 
+  -- p with this status answers, does this deed, and its next status goes on so
+  abbrev pub DoesNext : Streams → ℕ → Status → List Deed → Deed → (Status → Type 0) → Type 0
+  DoesNext T p s before d GoesOn =
+      (a : Answer) × (answered kinds net p s ≡ Some a) × IsDeedAlone T p before a.act d × GoesOn (after_answer a d)
+
   -- from this status, after the deeds `before`, p alone does these deeds
   abbrev pub GoesOnAlone : Streams → ℕ → Status → List Deed → List Deed → Type 0
   GoesOnAlone T p s before [] = Unit {0}
-  GoesOnAlone T p s before (d ∷ ds) =
-      (a : Answer) × (answered kinds net p s ≡ Some a) × IsDeedAlone T p before a.act d × GoesOnAlone T p (after_answer a d) (before ++ d ∷ []) ds
+  GoesOnAlone T p s before (d ∷ ds) = DoesNext T p s before d (λ next. GoesOnAlone T p next (before ++ d ∷ []) ds)
 
   abbrev pub DoesAlone : Streams → ℕ → List Deed → Type 0
   DoesAlone T p ds = GoesOnAlone T p (status (start kinds net) p) [] ds
@@ -58,8 +62,12 @@ IsFunction kinds =
     (net : Network) (T : Streams) (p : ℕ) (ds es : List Deed)
     → DoesAlone kinds net T p ds → DoesAlone kinds net T p es → ArePrefixComparable ds es
 
+-- each stream begins with the tokens that these deeds take from its channel
+abbrev pub BeginWithTaken : Streams → List Deed → Type 0
+BeginWithTaken T ds = (c : ℕ) → BeginsWith (T c) (took ds c)
+
 -- what p does, up to any point, depends only on the tokens taken
 abbrev pub IsContinuous : Family → Type 0
 IsContinuous kinds =
     (net : Network) (T : Streams) (p : ℕ) (ds : List Deed) → DoesAlone kinds net T p ds
-    → ((c : ℕ) → BeginsWith (T c) (took ds c)) × ((U : Streams) → ((c : ℕ) → BeginsWith (U c) (took ds c)) → DoesAlone kinds net U p ds)
+    → BeginWithTaken T ds × ((U : Streams) → BeginWithTaken U ds → DoesAlone kinds net U p ds)

@@ -20,6 +20,10 @@ listed streams c n = slice_get (get_or streams c []) n
 abbrev pub written : Network → ℕ → List Deed → List Token
 written net c ds = (channel_of net c).tokens ++ puts ds c
 
+-- with these deeds of its writer, the stream of c has this token at place n
+abbrev pub IsWrittenAt : Network → ℕ → List Deed → ℕ → Token → Type 0
+IsWrittenAt net c ds n t = slice_get (written net c ds) n ≡ Some t
+
 module _ (kinds : Family) (net : Network) where
   -- T is a pre-fixed point of the equations: each stream begins with all that its writer writes for T
   abbrev pub Obeys : Streams → Type 0
@@ -32,7 +36,7 @@ module _ (kinds : Family) (net : Network) where
     pub obeys : Obeys T
     pub no_more :
         (c n : ℕ) (t : Token) → T c n ≡ Some t
-        → (ds : List Deed) × DoesAlone kinds net T (channel_of net c).writer ds × (slice_get (written net c ds) n ≡ Some t)
+        → (ds : List Deed) × DoesAlone kinds net T (channel_of net c).writer ds × IsWrittenAt net c ds n t
 
   -- T is the least solution: each token of it is in every pre-fixed point
   pub record IsLeastSolution (T : Streams) : Type 0 where

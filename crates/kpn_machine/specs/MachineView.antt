@@ -15,6 +15,7 @@ use Rattle.kpn_body.specs.Input.{Input}
 use Rattle.kpn_state.specs.StateAndHistory.{StateAndHistory, state_and_history}
 use Rattle.kpn_state.specs.declared.standing.Standing.{Standing}
 use Rattle.kpn_state.specs.declared.standing.Standing.TheVariants.{Ready, Out, Parked, Stopped}
+use Rattle.kpn_commit.specs.declared.cores.Core.{Core}
 use Rattle.kpn_state.specs.Standings.{standing, is_busy, is_ready, parked_answer, StandingsFit}
 
 -- `end` says how the run ended, `commits` how many answers were taken
@@ -27,7 +28,19 @@ pub record MachineView : Type 0 where
   pub commits : ℕ
 
 abbrev pub machine_view : Network → State → List Entry → List Standing → Option End → ℕ → MachineView
-machine_view net M E standings end commits = record { network = net; state = M; history = E; standings = standings; end = end; commits = commits }
+machine_view net M E standings end commits =
+    record {
+      network = net;
+      state = M;
+      history = E;
+      standings = standings;
+      end = end;
+      commits = commits;
+    }
+
+-- the state and the history are those of the store
+abbrev pub stored_view : Network → StateAndHistory → List Standing → Option End → ℕ → MachineView
+stored_view net s standings end commits = machine_view net s.state s.history standings end commits
 
 -- with room for two entries more than the budget
 abbrev pub state_and_history_of : MachineView → StateAndHistory
@@ -38,6 +51,10 @@ pub record IsOutAt (net : Network) (M : State) (standings : List Standing) (i : 
   pub out : standing standings i.process ≡ Out
   pub card : card_of net i.process ≡ i.card
   pub live : status M i.process ≡ Live i.local i.last
+
+-- of this core, the process is out, with what the input says
+abbrev pub IsOutIn : {H : Type 0} → Network → Core H → Input → Type 0
+IsOutIn net core i = IsOutAt net core.store.state core.standings i
 
 abbrev pub IsOut : MachineView → Input → Type 0
 IsOut s i = IsOutAt s.network s.state s.standings i
@@ -56,8 +73,12 @@ pub record TakesOut (s : MachineView) (i : Input) (t : MachineView) : Type 0 whe
   pub live : status s.state i.process ≡ Live i.local i.last
   pub after : t ≡ record s { standings = set s.standings i.process Out }
 
+-- the slot of p holds a body of its card
+abbrev pub HasBody : Network → List (Option Card) → ℕ → Type 0
+HasBody net bodies p = get_or bodies p None ≡ Some (card_of net p)
+
 abbrev pub HasBodies : Network → List Standing → List (Option Card) → Type 0
-HasBodies net standings bodies = (p : ℕ) → p < length net.processes → standing standings p ≢ Out → get_or bodies p None ≡ Some (card_of net p)
+HasBodies net standings bodies = (p : ℕ) → p < length net.processes → standing standings p ≢ Out → HasBody net bodies p
 
 pub record HasSpareCapacity {X : Type 0} (net : Network) (spare : List X) (capacity : ℕ) : Type 0 where
   pub emptied : spare ≡ []
@@ -75,20 +96,26 @@ stays_in Out = 0
 stays_in (Parked a) = 1
 stays_in Stopped = 1
 
--- the history is a run to the state, and all else fits; there are at most as many answers as entries and
--- parked processes, and after the end as entries and processes that are not out
-pub record IsSound (kinds : Family) (admits : Admits) (s : MachineView) (limit : ℕ) (bodies : List (Option Card)) : Type 0 where
-  pub run : IsRun kinds s.network s.history s.state
-  pub keeps : StandingsFit kinds admits s.network None s.state s.standings
-  pub limit_is : limit ≡ s.network.budget + 2
-  pub many_bodies : length bodies ≡ length s.network.processes
-  pub has_bodies : HasBodies s.network s.standings bodies
-  pub few : length s.history ≤ s.network.budget + 2
-  pub ends : MayStand kinds s.network s.history s.state s.end
-  pub busy : s.end ≡ None → list_any is_busy s.standings ≡ true
-  pub idle : (end : End) → s.end ≡ Some end → end ≢ Budget → list_any is_busy s.standings ≡ false
-  pub asked : s.end ≡ None → s.commits ≤ length s.history + sum_by waits s.standings
-  pub laid : s.commits ≤ length s.history + sum_by stays_in s.standings
+module _ (kinds : Family) (admits : Admits) (s : MachineView) where
+  -- the history is a run to the state, and all else fits; there are at most as many answers as entries and
+  -- parked processes, and after the end as entries and processes that are not out
+  pub record IsSound (limit : ℕ) (bodies : List (Option Card)) : Type 0 where
+    pub run : IsRun kinds s.network s.history s.state
+    pub keeps : StandingsFit kinds admits s.network None s.state s.standings
+    pub limit_is : limit ≡ s.network.budget + 2
+    pub many_bodies : length bodies ≡ length s.network.processes
+    pub has_bodies : HasBodies s.network s.standings bodies
+    pub few : length s.history ≤ s.network.budget + 2
+    pub ends : MayStand kinds s.network s.history s.state s.end
+    pub busy : s.end ≡ None → list_any is_busy s.standings ≡ true
+    pub idle : (end : End) → s.end ≡ Some end → end ≢ Budget → list_any is_busy s.standings ≡ false
+    pub asked : s.end ≡ None → s.commits ≤ length s.history + sum_by waits s.standings
+    pub laid : s.commits ≤ length s.history + sum_by stays_in s.standings
+
+-- each process that is neither ready nor out wants what it answered
+abbrev pub WantAsAnswered : Family → Network → State → List Standing → Type 0
+WantAsAnswered kinds net M standings =
+    (p : ℕ) → is_busy (standing standings p) ≡ false → wants kinds net M p ≡ parked_answer (standing standings p)
 
 -- what always holds of a machine: its history is a run to its state, always within capacities and well-typed;
 -- its end is justified; an enabled process is ready or out, and one that is neither wants what it answered;
@@ -100,7 +127,7 @@ pub record IsFaithful (kinds : Family) (admits : Admits) (s : MachineView) : Typ
   pub well_typed : AtEachMoment kinds s.network s.history (IsWellTyped admits s.network)
   pub justified : MayStand kinds s.network s.history s.state s.end
   pub none_held_back : (p : ℕ) → IsEnabled kinds s.network s.state p → is_busy (standing s.standings p) ≡ true
-  pub wanted : (p : ℕ) → is_busy (standing s.standings p) ≡ false → wants kinds s.network s.state p ≡ parked_answer (standing s.standings p)
+  pub wanted : WantAsAnswered kinds s.network s.state s.standings
   pub some_busy : s.end ≡ None → list_any is_busy s.standings ≡ true
   pub none_busy : (end : End) → s.end ≡ Some end → end ≢ Budget → list_any is_busy s.standings ≡ false
   pub few_entries : length s.history ≤ s.network.budget + 2

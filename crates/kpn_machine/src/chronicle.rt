@@ -1,7 +1,7 @@
 //! A machine after its run.
 ghost use Rattle.std.specs.Prelude.{◌≡◌};
 ghost use Rattle.kpn_model.specs.Families.{family};
-ghost use Rattle.kpn_machine.specs.MachineView.{machine_view, IsFaithful};
+ghost use Rattle.kpn_machine.specs.MachineView.{machine_view, IsFaithful, stored_view};
 
 use kpn_model::{End, Entry, Kinds};
 use kpn_network::Net;
@@ -51,7 +51,7 @@ impl<K: Kinds, H: Keeper> Chronicle<K, H> {
         ended: Option<End>,
         commits: u64,
     ) -> Self
-        requires faithful { IsFaithful (family K.Kinds) K.admits (machine_view net store.state store.history standings ended commits) }
+        requires faithful { IsFaithful (family K.Kinds) K.admits (stored_view net store standings ended commits) }
         ensures { result ≡ machine_view net store.state store.history standings ended commits }
     {
         Chronicle {

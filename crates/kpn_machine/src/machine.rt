@@ -1,18 +1,16 @@
 //! The machine.
-ghost use Rattle.std.specs.Prelude.{count_by, ◌≡◌, ◌≢◌, ℕ, List, ◌<◌, ◌≤◌, ◌+◌, ◌↔◌, [], replicate, length, set, map, option_map, Some, None, IfSome, IfNone, IfErr, IfOk, OnOk, IsTrue};
+ghost use Rattle.std.specs.Prelude.{count_by, ◌≡◌, ◌≢◌, ℕ, ◌<◌, ◌≤◌, ◌+◌, ◌↔◌, length, set, map, option_map, None, IfSome, IfNone, IfErr, IfOk, OnOk, IsTrue};
 ghost use Rattle.kpn_model.specs.Network.{card_of};
 ghost use Rattle.kpn_model.specs.Families.{family};
 ghost use Rattle.kpn_model.specs.History.{growths as growths_of};
-ghost use Rattle.kpn_model.specs.Semantics.{status, start, IsPossible};
-ghost use Rattle.kpn_model.specs.declared.kinds.Act.TheVariants.{Stop};
-ghost use Rattle.kpn_machine.specs.Opening.{cards_of, Opens, IsOpenRefused};
+ghost use Rattle.kpn_model.specs.Semantics.{status};
+ghost use Rattle.kpn_machine.specs.Opening.{cards_of, Opens, IsOpenRefused, opened_view};
 ghost use Rattle.kpn_model.specs.declared.history.Status.TheVariants.{Live};
 ghost use Rattle.kpn_state.specs.declared.standing.Standing.TheVariants.{Out, Ready};
 ghost use Rattle.kpn_state.specs.Standings.{standing, is_out, is_ready, StandingsFit};
 ghost use Rattle.kpn_body.specs.Input.{input, answer_to};
-ghost use Rattle.kpn_machine.specs.MachineView.{machine_view, IsOut, IsOutAt, MayGoOut, TakesOut, IsFaithful, IsFresh};
-ghost use Rattle.kpn_commit.specs.declared.outcome.Outcome.{Outcome as OutcomeV};
-ghost use Rattle.kpn_machine.specs.Commits.{Commits, CommitsOn, Appends, EndsAs, ContinuesRun, GoesRound, GoesRounds, GoesOn, TellsEnabled, entries_appended};
+ghost use Rattle.kpn_machine.specs.MachineView.{machine_view, IsOut, MayGoOut, TakesOut, IsFaithful, IsFresh, IsOutIn};
+ghost use Rattle.kpn_machine.specs.Commits.{Commits, CommitsOn, Appends, EndsAs, ContinuesRun, GoesOn, TellsEnabled, entries_appended, OthersStayOut, CannotCommitOn, GoesSoManyRounds};
 ghost use Rattle.kpn_machine.specs.Finishing.{FinishesAlone};
 
 use crate::asking::ask_ready;
@@ -130,7 +128,7 @@ impl<B: Body, H: Keeper> Machine<B, H> {
         net: Net<B::Kinds>,
         mut bodies: Vec<B>,
     ) -> Result<Machine<B, H>, OpenRefused<B>>
-        ensures opened { IfOk result (λ m. m ≡ machine_view net (start (family B.Kinds.Kinds) net) [] (replicate (length net.processes) Ready) None 0) }
+        ensures opened { IfOk result (λ m. m ≡ opened_view (family B.Kinds.Kinds) net) }
         ensures fresh { IfOk result IsFresh }
         ensures cards { OnOk result (map B.card bodies.items ≡ cards_of net.processes) }
         ensures refused { IfErr result (IsOpenRefused B.card net bodies.items) }
@@ -297,7 +295,7 @@ struct Input {
 #[inline(always)]
 fn is_out_with<K: Kinds, H: Keeper>(net: &Net<K>, core: &Core<H>, held: Input) -> bool
     requires keeps { StandingsFit (family K.Kinds) K.admits net.now None core.now.store.state core.now.standings }
-    ensures { IsTrue result ↔ IsOutAt net.now core.now.store.state core.now.standings (input held.process held.card held.local held.last) }
+    ensures { IsTrue result ↔ IsOutIn net.now core.now (input held.process held.card held.local held.last) }
 {
     let standings = core.standings.as_slice();
     if held.process >= standings.len() {
@@ -358,11 +356,11 @@ impl<B: Body, H: Keeper> Machine<B, H> {
         ensures deserved { IfErr result (λ _. IsOut self.old finished → ⊥) }
         ensures out { OnOk result (IsOut self.old finished) }
         ensures commits { IfOk result (λ outcome. Commits (family B.Kinds.Kinds) self.old finished outcome self.new) }
-        ensures appends { IfOk result (λ outcome. Appends (family B.Kinds.Kinds) self.old self.new (entries_appended outcome)) }
+        ensures appends { IfOk result (λ o. Appends (family B.Kinds.Kinds) self.old self.new (entries_appended o)) }
         ensures tells { IfOk result (TellsEnabled (family B.Kinds.Kinds) self.old finished.process) }
         ensures ends { OnOk result (self.old.end ≡ None → EndsAs (family B.Kinds.Kinds) self.new) }
         ensures back { OnOk result (standing self.new.standings finished.process ≢ Out) }
-        ensures others { OnOk result ((p : ℕ) → p ≢ finished.process → (standing self.new.standings p ≡ Out) ↔ (standing self.old.standings p ≡ Out)) }
+        ensures others { OnOk result (OthersStayOut self.old self.new finished.process) }
     {
         if !self.has_asked(&finished) {
             return Err(Stranger { finished });
@@ -379,7 +377,7 @@ impl<B: Body, H: Keeper> Machine<B, H> {
         ensures tells { TellsEnabled (family B.Kinds.Kinds) self.old finished.process result }
         ensures ends { self.old.end ≡ None → EndsAs (family B.Kinds.Kinds) self.new }
         ensures back { standing self.new.standings finished.process ≢ Out }
-        ensures others { (p : ℕ) → p ≢ finished.process → (standing self.new.standings p ≡ Out) ↔ (standing self.old.standings p ≡ Out) }
+        ensures others { OthersStayOut self.old self.new finished.process }
     {
         self.net.assure_valid();
         let process = finished.process();
@@ -405,8 +403,8 @@ impl<B: Body, H: Keeper> Machine<B, H> {
     pub fn commit_on(&mut self, task: &mut Task<B>, answer: Answer) -> Option<Outcome>
         requires out { IsOut self.old task.old }
         requires answer { answer ≡ answer_to (family B.Kinds.Kinds) task.old }
-        ensures goes { IfSome result (λ outcome. CommitsOn (family B.Kinds.Kinds) self.old task.old outcome task.new self.new) }
-        ensures cannot { IfNone result (self.old.end ≡ None → length self.old.history + 2 < self.old.network.budget → answer.act ≢ Stop → IsPossible (family B.Kinds.Kinds) self.old.network self.old.state task.old.process answer.act → ⊥) }
+        ensures goes { IfSome result (λ o. CommitsOn (family B.Kinds.Kinds) self.old task.old o task.new self.new) }
+        ensures cannot { IfNone result (CannotCommitOn (family B.Kinds.Kinds) self.old task.old.process answer) }
         ensures same { IfNone result ((self.new ≡ self.old) × (task.new ≡ task.old)) }
     {
         self.net.assure_valid();
@@ -570,7 +568,7 @@ impl<B: Body, H: Keeper> Machine<B, H> {
     /// were taken. Processes that are out stay out. No contract says which ready process is asked. Takes no
     /// memory except that of growths.
     pub fn ask_in_place(&mut self, most: u64) -> u64
-        ensures rounds { (outcomes : List OutcomeV) × (length outcomes ≡ result) × GoesRounds (family B.Kinds.Kinds) self.old outcomes self.new }
+        ensures rounds { GoesSoManyRounds (family B.Kinds.Kinds) self.old result self.new }
         ensures goes { ContinuesRun (family B.Kinds.Kinds) self.old self.new }
         ensures commits { self.new.commits ≡ self.old.commits + result }
         ensures most { result ≤ most }

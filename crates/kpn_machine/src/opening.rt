@@ -1,15 +1,11 @@
 //! The parts with which a machine starts.
-ghost use Rattle.std.specs.Prelude.{◌≡◌, ℕ, ◌<◌, ◌+◌, length, [], All, Some, None, IsSome, IfOk, OnOk, IfSome, IfNone, map, option_map, replicate, false};
+ghost use Rattle.std.specs.Prelude.{◌≡◌, length, [], All, IsSome, IfOk, OnOk, IfSome, IfNone, map, option_map, replicate};
 ghost use Rattle.std.specs.Vec.{vec_capacity};
-ghost use Rattle.kpn_model.specs.Network.{card_of};
 ghost use Rattle.kpn_model.specs.Families.{family};
-ghost use Rattle.kpn_model.specs.Semantics.{start};
 ghost use Rattle.kpn_state.specs.declared.standing.Standing.TheVariants.{Ready};
-ghost use Rattle.kpn_state.specs.StateAndHistory.{state_and_history};
 ghost use Rattle.kpn_state.specs.Candidates.{candidate_list};
-ghost use Rattle.kpn_state.specs.Marks.{mark_lists};
 ghost use Rattle.kpn_machine.specs.OpenFaults.{number_of_open_fault};
-ghost use Rattle.kpn_machine.specs.Opening.{starting, filled, cards_of, IsOpenFault, AreSeated};
+ghost use Rattle.kpn_machine.specs.Opening.{starting, filled, cards_of, IsOpenFault, AreSeated, StartsAreAdmitted, started_store, no_marks};
 
 use crate::equality::same_card;
 use kpn_body::Body;
@@ -72,7 +68,7 @@ pub fn misfit<B: Body>(net: &Net<B::Kinds>, bodies: &[B]) -> Option<OpenFault>
 /// Returns each process's status, live with its card's start. Errors: out of memory.
 pub fn start_statuses<K: Kinds>(alloc: Global, net: &Net<K>) -> Result<Vec<Status>, AllocError>
     ensures items { IfOk result (λ v. v.items ≡ map (starting (family K.Kinds)) net.now.processes) }
-    ensures admitted { OnOk result ((p : ℕ) → p < length net.now.processes → K.admits (card_of net.now p) (K.start (card_of net.now p)) None) }
+    ensures admitted { OnOk result (StartsAreAdmitted K.Kinds net.now) }
 {
     let mut statuses = Vec::with_capacity(alloc, net.processes())?;
     for p in 0..net.processes() {
@@ -121,12 +117,12 @@ pub fn prepare<B: Body, H: Keeper>(
     net: &Net<B::Kinds>,
     limit: usize,
 ) -> Result<Start<B, H>, AllocError>
-    ensures store { IfOk result (λ r. r.core.store ≡ state_and_history (start (family B.Kinds.Kinds) net.now) [] limit) }
+    ensures store { IfOk result (λ r. r.core.store ≡ started_store (family B.Kinds.Kinds) net.now limit) }
     ensures standings { IfOk result (λ r. r.core.standings ≡ replicate (length net.now.processes) Ready) }
     ensures candidates { IfOk result (λ r. r.core.waiting.candidates ≡ candidate_list [] (length net.now.processes)) }
-    ensures marks { IfOk result (λ r. r.core.waiting.marks ≡ mark_lists (replicate (length net.now.channels) false) (replicate (length net.now.channels) false)) }
+    ensures marks { IfOk result (λ r. r.core.waiting.marks ≡ no_marks (length net.now.channels)) }
     ensures slots { IfOk result (λ r. length r.slots.items ≡ length net.now.processes) }
-    ensures admitted { OnOk result ((p : ℕ) → p < length net.now.processes → B.Kinds.admits (card_of net.now p) (B.Kinds.start (card_of net.now p)) None) }
+    ensures admitted { OnOk result (StartsAreAdmitted B.Kinds.Kinds net.now) }
 {
     net.assure_valid();
     let statuses = start_statuses(alloc, net)?;

@@ -3,11 +3,11 @@ use Rattle.std.specs.Prelude.{◌≡◌, ◌≢◌, ◌≤◌, ◌-◌, ℕ, zer
 use Rattle.std.specs.Io.Iter.{u64_saturate}
 use Rattle.std.specs.List.{All, flat_map}
 use Rattle.kpn_sketch.specs.declared.fault.NetFault.{NetFault}
-use Rattle.kpn_sketch.specs.declared.fault.NetFault.TheVariants.{Version, Counts, Name, Kind, Args, NoEnd, Twice, Unused, Sorts, Capacity, Budget, Tokens, Step, Memory, Input}
+use Rattle.kpn_sketch.specs.declared.fault.NetFault.TheVariants.{Version, Name, Kind, Args, NoEnd, Twice, Unused, Sorts, Capacity, Budget, Tokens, Memory, Input}
 use Rattle.kpn_model.specs.declared.kinds.Card.{Card}
 use Rattle.kpn_model.specs.declared.kinds.Signature.{Signature}
 use Rattle.kpn_sketch.specs.declared.sketch.Sketch.{Sketch}
-use Rattle.kpn_net.specs.Faults.{has_fault}
+use Rattle.kpn_net.specs.Faults.{has_fault, faults_in_order}
 use Rattle.kpn_message.specs.declared.location.Location.{Location}
 use Rattle.kpn_message.specs.declared.location.Location.TheVariants.{Description, Process, Channel}
 use Rattle.kpn_message.specs.declared.every_fault.Message.{Message}
@@ -16,7 +16,7 @@ use Rattle.kpn_message.specs.declared.every_fault.TheConstants.{MOST_MESSAGES}
 use Rattle.kpn_message.specs.Location.{is_of_description, process_has_fault, channel_has_fault}
 
 abbrev pub every_fault : List NetFault
-every_fault = Version ∷ Counts ∷ Name ∷ Kind ∷ Args ∷ NoEnd ∷ Twice ∷ Unused ∷ Sorts ∷ Capacity ∷ Budget ∷ Tokens ∷ Step ∷ []
+every_fault = faults_in_order
 
 -- f's lists for the numbers below n, joined
 abbrev pub for_each_below : {A : Type 0} → (ℕ → List A) → ℕ → List A
@@ -43,11 +43,15 @@ abbrev pub Adds : List (NetFault × Location) → Messages → Messages → Type
 Adds more first last = (before : List (NetFault × Location)) → Tells before first → Tells (before ++ more) last
 
 module _ (named : List ℕ → Option (ℕ × ℕ)) (signature : Card → Option Signature) (sketch : Sketch) where
+  -- the sketch has the fault
+  abbrev pub sketch_has : NetFault → Bool
+  sketch_has fault = has_fault named signature sketch fault
+
   abbrev pub has_wrong_process : Bool
-  has_wrong_process = has_fault named signature sketch Name || (has_fault named signature sketch Kind || has_fault named signature sketch Args)
+  has_wrong_process = sketch_has Name || (sketch_has Kind || sketch_has Args)
 
   abbrev pub has_wrong_end : Bool
-  has_wrong_end = has_fault named signature sketch NoEnd || has_fault named signature sketch Twice
+  has_wrong_end = sketch_has NoEnd || sketch_has Twice
 
   -- no other fault of the sketch may have caused this one
   abbrev pub stands_alone : NetFault → Bool
@@ -55,15 +59,19 @@ module _ (named : List ℕ → Option (ℕ × ℕ)) (signature : Card → Option
   stands_alone Twice = not has_wrong_process
   stands_alone Unused = not has_wrong_process && not has_wrong_end
   stands_alone Sorts = not has_wrong_process && not has_wrong_end
-  stands_alone Capacity = not (has_fault named signature sketch Version)
-  stands_alone Budget = not (has_fault named signature sketch Version)
-  stands_alone Tokens = not (has_fault named signature sketch Version) && not (has_fault named signature sketch Sorts)
+  stands_alone Capacity = not (sketch_has Version)
+  stands_alone Budget = not (sketch_has Version)
+  stands_alone Tokens = not (sketch_has Version) && not (sketch_has Sorts)
   stands_alone _ = true
+
+  -- the process has the fault
+  abbrev pub process_has : NetFault → ℕ → Bool
+  process_has fault k = process_has_fault named signature sketch fault k
 
   -- wrong arguments don't count if the kind is unknown
   abbrev pub is_of_process : NetFault → ℕ → Bool
-  is_of_process Args k = process_has_fault named signature sketch Args k && not (process_has_fault named signature sketch Kind k)
-  is_of_process fault k = process_has_fault named signature sketch fault k
+  is_of_process Args k = process_has Args k && not (process_has Kind k)
+  is_of_process fault k = process_has fault k
 
   abbrev pub is_of : NetFault → Location → Bool
   is_of fault Description = is_of_description fault
@@ -73,13 +81,22 @@ module _ (named : List ℕ → Option (ℕ × ℕ)) (signature : Card → Option
   abbrev pub told_of : NetFault → Location → List (NetFault × Location)
   told_of fault place = if is_of fault place then (fault, place) ∷ [] else []
 
-  abbrev pub places_of : NetFault → List (NetFault × Location)
-  places_of fault =
-      told_of fault Description ++ (for_each_below (λ p. told_of fault (Process p)) (length sketch.processes) ++ for_each_below (λ c. told_of fault (Channel c)) (length sketch.channels))
+  -- the places of the fault among the processes, and among the channels
+  abbrev pub told_of_processes : NetFault → List (NetFault × Location)
+  told_of_processes fault = for_each_below (λ p. told_of fault (Process p)) (length sketch.processes)
 
-  -- if the sketch has the fault and no other may have caused it
+  abbrev pub told_of_channels : NetFault → List (NetFault × Location)
+  told_of_channels fault = for_each_below (λ c. told_of fault (Channel c)) (length sketch.channels)
+
+  abbrev pub places_of : NetFault → List (NetFault × Location)
+  places_of fault = told_of fault Description ++ (told_of_processes fault ++ told_of_channels fault)
+
+  -- the sketch has the fault, and no other may have caused it
+  abbrev pub is_due : NetFault → Bool
+  is_due fault = sketch_has fault && stands_alone fault
+
   abbrev pub due_of : NetFault → List (NetFault × Location)
-  due_of fault = if has_fault named signature sketch fault && stands_alone fault then places_of fault else []
+  due_of fault = if is_due fault then places_of fault else []
 
   abbrev pub due : List (NetFault × Location)
   due = flat_map due_of every_fault

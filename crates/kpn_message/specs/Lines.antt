@@ -27,10 +27,18 @@ is_header text header i = begins_line text i && stands_at text header i
 abbrev pub has_word : List ℕ → List ℕ → Bool
 has_word text word = not (count_below (stands_at text word) (length text) == 0)
 
+-- a byte three times
+abbrev pub thrice : ℕ → List ℕ
+thrice byte = byte ∷ byte ∷ byte ∷ []
+
+-- the text has as many headers as tables
+abbrev pub has_headers : List ℕ → List ℕ → ℕ → Bool
+has_headers text header tables = count_below (is_header text header) (length text) == tables
+
 -- the text has as many headers as tables, and no string of several lines, which might contain a header
 abbrev pub tells_lines : List ℕ → List ℕ → ℕ → Bool
 tells_lines text header tables =
-    not (has_word text (34 ∷ 34 ∷ 34 ∷ [])) && (not (has_word text (39 ∷ 39 ∷ 39 ∷ [])) && count_below (is_header text header) (length text) == tables)
+    not (has_word text (thrice 34)) && (not (has_word text (thrice 39)) && has_headers text header tables)
 
 -- line l has the header of table k: k headers precede it
 pub record IsLineOf (text header : List ℕ) (k l : ℕ) : Type 0 where

@@ -1,10 +1,9 @@
 //! Locates a fault of a sketch.
-ghost use Rattle.std.specs.Prelude.{◌≡◌, ◌||◌, length, not, pos, IfSome, IfNone};
+ghost use Rattle.std.specs.Prelude.{◌≡◌, ◌||◌, IfSome, IfNone};
 ghost use Rattle.std.specs.List.{list_any};
-ghost use Rattle.kpn_message.specs.Location.{clashes_at, holds_at, IsFirst, HoldsNowhere, process_has_fault, channel_has_fault, IsLocation};
+ghost use Rattle.kpn_message.specs.Location.{clashes_at, process_has_fault, channel_has_fault, IsLocation, has_capacity_outside, is_channel_misnamed, is_process_misnamed, IsFirstChannel, IsFirstProcess, NoChannelHas, NoProcessHas};
 ghost use Rattle.kpn_model.specs.texts.NameForm.{is_name};
-ghost use Rattle.kpn_model.specs.texts.Version.{ceiling_in};
-ghost use Rattle.kpn_net.specs.Faults.{is_outside, same_process, same_channel, same_out, same_in};
+ghost use Rattle.kpn_net.specs.Faults.{same_out, same_in};
 
 use kpn_net::faults::{
     Clash, SameIn, SameName, SameOut, has_unknown_kind, has_unused_port, has_wrong_args,
@@ -37,8 +36,8 @@ pub fn locate<K: Kinds>(sketch: &Sketch, fault: NetFault) -> Location
 }
 
 fn first_process<K: Kinds>(sketch: &Sketch, fault: NetFault) -> Option<usize>
-    ensures first { IfSome result (IsFirst (process_has_fault K.named K.signature sketch.now fault) (length sketch.now.processes)) }
-    ensures none { IfNone result (HoldsNowhere (process_has_fault K.named K.signature sketch.now fault) (length sketch.now.processes)) }
+    ensures first { IfSome result (IsFirstProcess K.named K.signature sketch.now fault) }
+    ensures none { IfNone result (NoProcessHas K.named K.signature sketch.now fault) }
 {
     for p in 0..sketch.processes.as_slice().len() {
         if process_has_fault::<K>(sketch, fault, p) {
@@ -49,8 +48,8 @@ fn first_process<K: Kinds>(sketch: &Sketch, fault: NetFault) -> Option<usize>
 }
 
 fn first_channel<K: Kinds>(sketch: &Sketch, fault: NetFault) -> Option<usize>
-    ensures first { IfSome result (IsFirst (channel_has_fault K.named K.signature sketch.now fault) (length sketch.now.channels)) }
-    ensures none { IfNone result (HoldsNowhere (channel_has_fault K.named K.signature sketch.now fault) (length sketch.now.channels)) }
+    ensures first { IfSome result (IsFirstChannel K.named K.signature sketch.now fault) }
+    ensures none { IfNone result (NoChannelHas K.named K.signature sketch.now fault) }
 {
     for c in 0..sketch.channels.as_slice().len() {
         if channel_has_fault::<K>(sketch, fault, c) {
@@ -77,7 +76,7 @@ pub(crate) fn process_has_fault<K: Kinds>(sketch: &Sketch, fault: NetFault, p: u
 }
 
 fn is_process_misnamed(processes: &[ProcessSketch], p: usize) -> bool
-    ensures { result ≡ (holds_at (λ x. not (is_name x.name)) processes.now p || clashes_at same_process processes.now p) }
+    ensures { result ≡ is_process_misnamed processes.now p }
 {
     match processes.get(p) {
         Some(process) => {
@@ -106,7 +105,7 @@ pub(crate) fn channel_has_fault<K: Kinds>(sketch: &Sketch, fault: NetFault, c: u
 }
 
 fn is_channel_misnamed(channels: &[ChannelSketch], c: usize) -> bool
-    ensures { result ≡ (holds_at (λ x. not (is_name x.name)) channels.now c || clashes_at same_channel channels.now c) }
+    ensures { result ≡ is_channel_misnamed channels.now c }
 {
     match channels.get(c) {
         Some(channel) => {
@@ -125,7 +124,7 @@ fn shares_an_end(channels: &[ChannelSketch], c: usize) -> bool
 }
 
 fn is_capacity_wrong(sketch: &Sketch, channel: &ChannelSketch) -> bool
-    ensures { result ≡ is_outside (pos 1) (pos (ceiling_in sketch.now.version)) channel.now.capacity }
+    ensures { result ≡ has_capacity_outside sketch.now.version channel.now }
 {
     has_wrong_capacity(sketch.version, channel)
 }

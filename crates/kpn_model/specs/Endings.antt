@@ -13,11 +13,23 @@ pub record CanGrow (kinds : Family) (net : Network) (M : State) : Type 0 where
   pub next : State
   pub grows : Grows kinds net M channel to next
 
+-- some process has not stopped
+abbrev pub SomeIsLive : State → Type 0
+SomeIsLive M = (p : ℕ) × (status M p ≢ Done)
+
+-- no process wants to write to a full channel
+abbrev pub NoneIsBlocked : Family → Network → State → Type 0
+NoneIsBlocked kinds net M = (p c : ℕ) → IsBlocked kinds net M p c → ⊥
+
+-- the channel that would grow has the greatest capacity
+abbrev pub ChosenIsAtCeiling : Family → Network → State → Type 0
+ChosenIsAtCeiling kinds net M = (c : ℕ) × IsChosen kinds net M c × (capacity M c ≡ net.ceiling)
+
 -- nothing can happen any more, for this cause
 abbrev pub IsOver : Family → Network → State → End → Type 0
 IsOver kinds net M Terminated = IsQuiet kinds net M × ((p : ℕ) → status M p ≡ Done)
-IsOver kinds net M Deadlock = IsQuiet kinds net M × ((p : ℕ) × (status M p ≢ Done)) × ((p c : ℕ) → IsBlocked kinds net M p c → ⊥)
-IsOver kinds net M Ceiling = IsArtificial kinds net M × ((c : ℕ) × IsChosen kinds net M c × (capacity M c ≡ net.ceiling))
+IsOver kinds net M Deadlock = IsQuiet kinds net M × SomeIsLive M × NoneIsBlocked kinds net M
+IsOver kinds net M Ceiling = IsArtificial kinds net M × ChosenIsAtCeiling kinds net M
 IsOver kinds net M Budget = ⊥
 IsOver kinds net M Memory = ⊥
 

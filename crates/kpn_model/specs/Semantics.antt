@@ -39,6 +39,26 @@ with_status M p s = record M { processes = set M.processes p s }
 abbrev pub with_channel : State → ℕ → List Token → ℕ → State
 with_channel M c ts n = record M { channels = set M.channels c (record { tokens = ts; capacity = n }) }
 
+-- c holds this token too, behind the others
+abbrev pub with_token : State → ℕ → Token → State
+with_token M c t = with_channel M c (tokens M c ++ t ∷ []) (capacity M c)
+
+-- c holds all but its first token
+abbrev pub without_first : State → ℕ → State
+without_first M c = with_channel M c (drop 1 (tokens M c)) (capacity M c)
+
+-- c has this capacity
+abbrev pub with_room : State → ℕ → ℕ → State
+with_room M c to = with_channel M c (tokens M c) to
+
+-- p has taken the first token of c, and goes on from this local state
+abbrev pub after_take : State → ℕ → List ℕ → ℕ → Token → State
+after_take M p next c t = with_channel (with_status M p (Live next (Some t))) c (drop 1 (tokens M c)) (capacity M c)
+
+-- p has put the token into c, and goes on from this local state
+abbrev pub after_put : State → ℕ → List ℕ → ℕ → Token → State
+after_put M p next c t = with_channel (with_status M p (Live next None)) c (tokens M c ++ t ∷ []) (capacity M c)
+
 module _ (kinds : Family) (net : Network) where
   abbrev pub start : State
   start =
@@ -74,8 +94,8 @@ module _ (kinds : Family) (net : Network) where
   -- the state after a deed of p, with p's next local state
   abbrev pub after_deed : State → ℕ → List ℕ → Deed → State
   after_deed M p next Stopped = with_status M p Done
-  after_deed M p next (Took c t) = with_channel (with_status M p (Live next (Some t))) c (drop 1 (tokens M c)) (capacity M c)
-  after_deed M p next (Put c t) = with_channel (with_status M p (Live next None)) c (tokens M c ++ t ∷ []) (capacity M c)
+  after_deed M p next (Took c t) = after_take M p next c t
+  after_deed M p next (Put c t) = after_put M p next c t
 
   -- p does the deed that it wants
   pub record Does (M : State) (p : ℕ) (d : Deed) (N : State) : Type 0 where

@@ -61,11 +61,11 @@ pub gives_more : (kinds : Family) (s : MachineView) (tasks : List Input) (outcom
     → Gives kinds s tasks outcomes again m (i ∷ left) → Commits kinds m i o n → Appends kinds m n (entries_appended o) → GoesOutAgain n more t [] → Gives kinds s tasks (outcomes ++ o ∷ []) (again ++ more) t left
 gives_more kinds s [] [] again m i left o n more t all one appends out = absurd (let e = all.1 in cc)
 gives_more kinds s (j ∷ tasks) [] again m i left o n more t all one appends out =
-    let last : Gives kinds m (i ∷ left) (o ∷ []) more t left = (n, one, appends, t, [], out, (refl, refl, refl)) in
+    let last : Gives kinds m (i ∷ left) (o ∷ []) more t left = (n, one, appends, (t, [], out, (refl, refl, refl))) in
     rw (all.2) (subst (λ (l : List Input). Gives kinds s l (o ∷ []) more t left) all.1 (subst (λ (x : MachineView). Gives kinds x (i ∷ left) (o ∷ []) more t left) all.0 last))
 gives_more kinds s [] (p ∷ outcomes) again m i left o n more t all one appends out = absurd all
 gives_more kinds s (j ∷ tasks) (p ∷ outcomes) again m i left o n more t all one appends out =
-    (all.0, all.1, all.2, all.3, all.4 ++ more, out_again all.0 again all.3 all.4 more all.5, gives_more kinds all.3 tasks outcomes all.4 m i left o n more t all.6 one appends out)
+    (all.0, all.1, all.2, (all.3.0, all.3.1 ++ more, out_again all.0 again all.3.0 all.3.1 more all.3.2, gives_more kinds all.3.0 tasks outcomes all.3.1 m i left o n more t all.3.3 one appends out))
 
 pub committed_more : (kinds : Family) (admits : Admits) (net : Network) (tasks : List Input) (outcomes : List Outcome) (i : Input) (left : List Input) (o : Outcome)
     → WereCommitted kinds admits net tasks outcomes (i ∷ left) → WasCommitted kinds admits net i o → WereCommitted kinds admits net tasks (outcomes ++ o ∷ []) left
@@ -120,8 +120,8 @@ pub went_on : (kinds : Family) (s : MachineView) (tasks : List Input) (outcomes 
 went_on kinds s tasks [] again t left all = subst (λ (x : MachineView). WentOn s x 0) (sym all.0) (went_nowhere s)
 went_on kinds s [] (o ∷ outcomes) again t left all = absurd all
 went_on kinds s (i ∷ tasks) (o ∷ outcomes) again t left all =
-    let first = went_out all.0 again all.3 all.4 s (entries_appended o) all.5 (went_on_once kinds s i o all.0 all.1 all.2) in
-    subst (λ n. WentOn s t n) (sym (sum_by-cons entries_appended o outcomes)) (went_on_again s all.3 t (entries_appended o) (sum_by entries_appended outcomes) first (went_on kinds all.3 tasks outcomes all.4 t left all.6))
+    let first = went_out all.0 again all.3.0 all.3.1 s (entries_appended o) all.3.2 (went_on_once kinds s i o all.0 all.1 all.2) in
+    subst (λ n. WentOn s t n) (sym (sum_by-cons entries_appended o outcomes)) (went_on_again s all.3.0 t (entries_appended o) (sum_by entries_appended outcomes) first (went_on kinds all.3.0 tasks outcomes all.3.1 t left all.3.3))
 
 -- a process that comes back appends nothing
 came_one : (s : MachineView) (i : Input) (t : MachineView) → TakesBack s i t → (r : MachineView) (n : ℕ) → WentOn r s n → WentOn r t n

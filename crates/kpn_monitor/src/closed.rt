@@ -1,11 +1,10 @@
 //! A closed monitor.
-ghost use Rattle.std.specs.Prelude.{◌≡◌, ◌≢◌};
+ghost use Rattle.std.specs.Prelude.{◌≡◌};
 ghost use Rattle.kpn_model.specs.Families.{family};
 ghost use mathlib.Core.List.{IsPrefix};
-ghost use Rattle.kpn_watch.specs.declared.progress.Phase.TheVariants.{Running};
 ghost use Rattle.kpn_watch.specs.Phases.{phase_of};
 ghost use Rattle.kpn_watch.specs.Shown.{shows};
-ghost use Rattle.kpn_monitor.specs.Kept.{IsClosed, IsShown};
+ghost use Rattle.kpn_monitor.specs.Kept.{IsClosed, IsShown, SeesAllIfEnded};
 
 use crate::booked::BookedRun;
 use crate::monitor::Monitor;
@@ -109,7 +108,7 @@ impl<K: Kinds, E: EntryLedger, H: Keeper> Closed<K, E, H> {
     pub fn settle(&mut self, watcher: Watcher) -> Progress
         requires { watcher.board ≡ E.board }
         ensures goes_on { IsPrefix watcher.entries self.old.machine.history }
-        ensures ended { watcher.phase ≢ Running → (self.old.machine.history ≡ watcher.entries) × (phase_of self.old.machine.end ≡ watcher.phase) }
+        ensures ended { SeesAllIfEnded watcher.entries watcher.phase self.old.machine }
         ensures shown { result ≡ shows self.old.machine.history (phase_of self.old.machine.end) }
         ensures same { self.new ≡ self.old }
     {

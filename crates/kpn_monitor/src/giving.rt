@@ -5,8 +5,8 @@ ghost use Rattle.kpn_model.specs.Families.{family};
 ghost use Rattle.kpn_machine.specs.MachineView.{IsOut};
 ghost use Rattle.kpn_machine.specs.Commits.{Commits, Appends, entries_appended};
 ghost use Rattle.kpn_monitor.specs.Kept.{WasCommitted, WasTaken};
-ghost use Rattle.kpn_monitor.specs.Hands.{Gives, TakesBackAll, WereCommitted};
-ghost use Rattle.kpn_monitor.specs.Places.{GivesFirst, HasFirst};
+ghost use Rattle.kpn_monitor.specs.Hands.{TakesBackAll};
+ghost use Rattle.kpn_monitor.specs.Places.{GivesFirst, HasFirst, GivesFrom, CommittedFrom};
 
 use crate::places::Places;
 use kpn_body::{Body, Finished};
@@ -52,8 +52,8 @@ pub(crate) fn give_all<B: Body, H: Keeper>(
     requires kept { places.old.again ≡ [] }
     requires few { length places.old.tasks ≤ 64 }
     requires within { places.old.called ≤ length places.old.tasks }
-    ensures machine { Gives (family B.Kinds.Kinds) machine.old places.old.tasks places.new.outcomes places.new.again machine.new places.new.tasks }
-    ensures committed { WereCommitted (family B.Kinds.Kinds) B.Kinds.admits machine.old.network places.old.tasks places.new.outcomes places.new.tasks }
+    ensures machine { GivesFrom (family B.Kinds.Kinds) machine.old places.old machine.new places.new }
+    ensures committed { CommittedFrom (family B.Kinds.Kinds) B.Kinds.admits machine.old.network places.old places.new }
     ensures taken { All (WasTaken (family B.Kinds.Kinds) B.Kinds.admits machine.old.network) places.new.again }
     ensures most { length places.new.again ≤ keep }
     ensures called { places.new.called + length places.new.outcomes ≡ places.old.called }

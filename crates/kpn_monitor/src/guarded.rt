@@ -3,18 +3,15 @@
 //! Whenever the lock is free, the history is a run of the network; an end is justified and final; the book of
 //! entries totals the length of the history; the run has ended if the book of overs is not empty; and the
 //! history and the phase of its end are published.
-ghost use Rattle.std.specs.Prelude.{ℕ, ◌≡◌, ◌≢◌, ◌+◌, ◌^◌, ◌<◌, ◌≤◌, [], ◌∷◌, ◌++◌, true, false, length, Some, IfNone, Ok, IfSome, IfOk, IsSome, MatchResult};
+ghost use Rattle.std.specs.Prelude.{ℕ, ◌≡◌, ◌^◌, ◌<◌, ◌≤◌, [], true, false, length, Some, IfNone, Ok, IfSome, IfOk, IsSome};
 ghost use mathlib.Core.List.{IsPrefix};
 ghost use Rattle.kpn_model.specs.Families.{family};
 ghost use Rattle.kpn_model.specs.declared.history.End.{End as EndV};
-ghost use Rattle.kpn_model.specs.Semantics.{State, IsRun};
-ghost use Rattle.kpn_watch.specs.declared.progress.Phase.TheVariants.{Running};
-ghost use Rattle.kpn_watch.specs.Phases.{phase_of};
-ghost use Rattle.kpn_monitor.specs.Kept.{IsShown, HasEnded, WasTaken, FoundNothing};
-ghost use Rattle.kpn_monitor.specs.Hands.{AsksUnderLock, CommitsAnswer, Deals, ExchangesUnderLock, Receives};
+ghost use Rattle.kpn_monitor.specs.Kept.{IsShown, HasEnded, FoundNothing, watched_of, IsRunSeen, CountsWatcher, published_of, SeesAllIfEnded};
+ghost use Rattle.kpn_monitor.specs.Hands.{Receives, HadEnd, CommitsUnderLock, MeetsEnd, EndsDeal, LockedExchange, LockedAsk, DealsOne, DealsHand};
+ghost use Rattle.kpn_monitor.specs.Views.{new_publisher};
 ghost use Rattle.kpn_body.specs.Input.{Input};
 ghost use Rattle.kpn_machine.specs.MachineView.{IsFaithful, IsFresh, TakesOut};
-ghost use Rattle.kpn_model.specs.Endings.{MayStand};
 ghost use Rattle.kpn_machine.specs.Commits.{entries_appended};
 
 use crate::giving::give_one;
@@ -105,7 +102,7 @@ impl<B: Body, E: EntryLedger, O: Ledger, H: Keeper> Guarded<B, E, O, H> {
     ) -> Self
         requires fresh { IsFresh machine }
         requires network { machine.network ≡ E.net }
-        requires publisher { publisher ≡ record { board = E.board; entries = []; phase = Running; watchers = 0 } }
+        requires publisher { publisher ≡ new_publisher E.board }
         requires books { (entries.total ≡ 0) × (overs.total ≡ 0) }
         requires parts { (E.parts ≡ 65536) × (O.parts ≡ 65536) }
         ensures { result ≡ record { machine = machine; overs = 0; watchers = 0 } }
@@ -129,7 +126,7 @@ impl<B: Body, E: EntryLedger, O: Ledger, H: Keeper> Guarded<B, E, O, H> {
         ensures nothing { IfNone result (FoundNothing (family B.Kinds.Kinds) B.Kinds.admits E.net) }
         ensures received { IfSome result (Receives (family B.Kinds.Kinds) B.Kinds.admits E.net seat.old seat.new) }
         ensures task { (t : Input) → result ≡ Some (Taken.Task t) → TakesOut self.old.machine t self.new.machine }
-        ensures over { (e : EndV) → result ≡ Some (Taken.Over e) → (self.old.machine.end ≡ Some e) × (self.new.machine ≡ self.old.machine) }
+        ensures over { (e : EndV) → result ≡ Some (Taken.Over e) → HadEnd self.old.machine self.new.machine e }
     {
         match self.machine.end() {
             Some(end) => {
@@ -155,7 +152,7 @@ impl<B: Body, E: EntryLedger, O: Ledger, H: Keeper> Guarded<B, E, O, H> {
         finished: Finished<B>,
         seat: &mut Seat<E, O>,
     ) -> Result<Outcome, Stranger<B>>
-        ensures { MatchResult result (CommitsAnswer (family B.Kinds.Kinds) B.Kinds.admits E.net self.old.machine seat.old finished self.new.machine seat.new) (λ s. (self.new ≡ self.old) × (seat.new ≡ seat.old) × (s.finished ≡ finished)) }
+        ensures { CommitsUnderLock B.Kinds.Kinds E.net self.old seat.old finished self.new seat.new result }
     {
         if !self.machine.has_asked(&finished) {
             return Err(Stranger { finished });
@@ -171,7 +168,7 @@ impl<B: Body, E: EntryLedger, O: Ledger, H: Keeper> Guarded<B, E, O, H> {
     fn meet_end(&mut self, seat: &mut Seat<E, O>) -> Option<End>
         ensures machine { self.new.machine ≡ self.old.machine }
         ensures nothing { IfNone result (seat.new ≡ seat.old) }
-        ensures over { IfSome result (λ e. (seat.new ≡ record seat.old { overs = 1 }) × (self.new.machine.end ≡ Some e)) }
+        ensures over { IfSome result (MeetsEnd seat.old seat.new self.new.machine) }
         ensures ended { IfSome result (HasEnded (family B.Kinds.Kinds) B.Kinds.admits E.net) }
     {
         let end = self.machine.end()?;
@@ -191,14 +188,14 @@ impl<B: Body, E: EntryLedger, O: Ledger, H: Keeper> Guarded<B, E, O, H> {
         requires few { length hand.old.tasks ≤ most }
         requires called { hand.old.called ≡ 0 }
         requires wanted { (wanted ≤ 64) × (1 ≤ most → wanted ≤ most) }
-        ensures deals { Deals (family B.Kinds.Kinds) B.Kinds.admits E.net self.old.machine hand.old.tasks self.new.machine hand.new.tasks }
+        ensures deals { DealsHand B.Kinds.Kinds E.net self.old.machine hand.old self.new.machine hand.new }
         ensures rest { (hand.new.called ≡ 0) × (hand.new.outcomes ≡ hand.old.outcomes) }
         ensures most { length hand.new.tasks ≤ most }
         ensures tasks { result ≡ Next.Tasks → (seat.new ≡ seat.old) × (0 < length hand.new.tasks) }
         ensures nothing { result ≡ Next.Nothing → (seat.new ≡ seat.old) × (hand.new.tasks ≡ []) }
         ensures found { result ≡ Next.Nothing → 0 < most → FoundNothing (family B.Kinds.Kinds) B.Kinds.admits E.net }
         ensures seat { (seat.new.parts ≡ seat.old.parts) × (seat.new.entries ≡ seat.old.entries) }
-        ensures over { (e : EndV) → result ≡ Next.Over e → (seat.new ≡ record seat.old { overs = 1 }) × (hand.new.tasks ≡ []) × (self.new.machine.end ≡ Some e) }
+        ensures over { (e : EndV) → result ≡ Next.Over e → EndsDeal seat.old seat.new hand.new self.new.machine e }
         ensures ended { (e : EndV) → result ≡ Next.Over e → HasEnded (family B.Kinds.Kinds) B.Kinds.admits E.net e }
     {
         if most == 0 {
@@ -233,7 +230,7 @@ impl<B: Body, E: EntryLedger, O: Ledger, H: Keeper> Guarded<B, E, O, H> {
         most: usize,
     ) -> Result<Next, Stranger<B>>
         requires called { hand.old.called ≡ length hand.old.tasks }
-        ensures { ExchangesUnderLock (family B.Kinds.Kinds) B.Kinds.admits E.net most self.old.machine hand.old seat.old self.new.machine hand.new seat.new result }
+        ensures { LockedExchange B.Kinds.Kinds E.net most self.old hand.old seat.old self.new hand.new seat.new result }
     {
         let ready = self.machine.ready().saturating_add(hand.len());
         let wanted = hand.sharer.wanted(ready, most, self.sharing());
@@ -259,7 +256,7 @@ impl<B: Body, E: EntryLedger, O: Ledger, H: Keeper> Guarded<B, E, O, H> {
         most: u64,
         waited: bool,
     ) -> Went
-        ensures { AsksUnderLock (family B.Kinds.Kinds) B.Kinds.admits E.net most self.old.machine seat.old self.new.machine seat.new result }
+        ensures { LockedAsk B.Kinds.Kinds E.net most self.old seat.old self.new seat.new result }
     {
         self.machine.assure_faithful();
         let before = self.machine.entries();
@@ -279,7 +276,7 @@ impl<B: Body, E: EntryLedger, O: Ledger, H: Keeper> Guarded<B, E, O, H> {
     fn deal_more(&mut self, hand: &mut Hand<B>, wanted: usize)
         requires some { 0 < length hand.old.tasks }
         requires room { wanted ≤ 64 }
-        ensures deals { Deals (family B.Kinds.Kinds) B.Kinds.admits E.net self.old.machine hand.old.tasks self.new.machine hand.new.tasks }
+        ensures deals { DealsHand B.Kinds.Kinds E.net self.old.machine hand.old self.new.machine hand.new }
         ensures some { 0 < length hand.new.tasks }
         ensures many { (n : ℕ) → length hand.old.tasks ≤ n → wanted ≤ n → length hand.new.tasks ≤ n }
         ensures rest { (hand.new.called ≡ hand.old.called) × (hand.new.outcomes ≡ hand.old.outcomes) }
@@ -293,7 +290,7 @@ impl<B: Body, E: EntryLedger, O: Ledger, H: Keeper> Guarded<B, E, O, H> {
 
     fn deal_one(&mut self, hand: &mut Hand<B>) -> bool
         requires { length hand.old.tasks < 64 }
-        ensures more { result ≡ true → (i : Input) × (hand.new ≡ record hand.old { tasks = hand.old.tasks ++ i ∷ [] }) × TakesOut self.old.machine i self.new.machine × WasTaken (family B.Kinds.Kinds) B.Kinds.admits E.net i }
+        ensures more { result ≡ true → DealsOne B.Kinds.Kinds E.net self.old hand.old self.new hand.new }
         ensures none { result ≡ false → (hand.new ≡ hand.old) × (self.new ≡ self.old) }
     {
         self.machine.assure_faithful();
@@ -354,9 +351,9 @@ impl<B: Body, E: EntryLedger, O: Ledger, H: Keeper> Guarded<B, E, O, H> {
     }
 
     pub(crate) fn watch(&mut self, board: &NamedBoard<E>) -> Result<Watcher, WatchFault>
-        ensures seen { IfOk result (λ w. w ≡ record { board = E.board; entries = self.old.machine.history; phase = phase_of self.old.machine.end }) }
-        ensures run { IfOk result (λ w. (M : State) × IsRun (family B.Kinds.Kinds) E.net w.entries M × MayStand (family B.Kinds.Kinds) E.net w.entries M self.old.machine.end) }
-        ensures counted { MatchResult result (λ _. (self.old.watchers ≢ MOST_WATCHERS) × (self.new ≡ record self.old { watchers = self.old.watchers + 1 })) (λ _. (self.old.watchers ≡ MOST_WATCHERS) × (self.new ≡ self.old)) }
+        ensures seen { IfOk result (λ w. w ≡ watched_of E.board self.old.machine) }
+        ensures run { IfOk result (IsRunSeen (family B.Kinds.Kinds) E.net self.old.machine.end) }
+        ensures counted { CountsWatcher MOST_WATCHERS self.old self.new result }
     {
         self.machine.assure_faithful();
         self.publisher.watch(board)
@@ -398,8 +395,8 @@ fn publish<B: Body, E: EntryLedger, H: Keeper>(
 )
     requires board { publisher.old.board ≡ E.board }
     requires goes_on { IsPrefix publisher.old.entries machine.now.history }
-    requires ended { publisher.old.phase ≢ Running → (machine.now.history ≡ publisher.old.entries) × (phase_of machine.now.end ≡ publisher.old.phase) }
-    ensures published { publisher.new ≡ record publisher.old { entries = machine.now.history; phase = phase_of machine.now.end } }
+    requires ended { SeesAllIfEnded publisher.old.entries publisher.old.phase machine.now }
+    ensures published { publisher.new ≡ published_of publisher.old machine.now }
     ensures faithful { IsFaithful (family B.Kinds.Kinds) B.Kinds.admits machine.now }
     ensures short { length machine.now.history < 2 ^ 22 }
 {

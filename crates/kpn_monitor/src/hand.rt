@@ -1,8 +1,6 @@
 //! A worker's batch of tasks.
-ghost use Rattle.std.specs.Prelude.{◌≡◌, ◌+◌, ◌<◌, ◌≤◌, [], ◌∷◌, ◌++◌, Some, length, slice_get, IfOk, IfNone, IfSome, MatchOption};
-ghost use Rattle.kpn_model.specs.Families.{family};
-ghost use Rattle.kpn_body.specs.Input.{Input};
-ghost use Rattle.kpn_monitor.specs.Hands.{GivesAll, GivesUpTo};
+ghost use Rattle.std.specs.Prelude.{◌≡◌, ◌+◌, ◌<◌, ◌≤◌, [], ◌∷◌, ◌++◌, length, IfOk, IfNone, IfSome};
+ghost use Rattle.kpn_monitor.specs.Hands.{CallsTaskOf, CountsCall, GivesHand};
 
 use crate::giving::{give_all, give_back};
 use crate::places::{MOST_TASKS, Places};
@@ -81,8 +79,8 @@ impl<B: Body> Hand<B> {
     #[inline]
     pub fn call(&mut self) -> Option<usize>
         ensures none { IfNone result ((self.old.called ≡ length self.old.tasks) × (self.new ≡ self.old)) }
-        ensures some { IfSome result (λ p. (i : Input) × (slice_get self.old.tasks self.old.called ≡ Some i) × (i.process ≡ p)) }
-        ensures called { IfSome result (λ _. (self.new ≡ record self.old { called = self.old.called + 1 }) × (self.old.called < length self.old.tasks)) }
+        ensures some { IfSome result (CallsTaskOf self.old) }
+        ensures called { IfSome result (λ _. CountsCall self.old self.new) }
     {
         self.places.call()
     }
@@ -111,7 +109,7 @@ impl<B: Body> Hand<B> {
         keep: usize,
     ) -> Option<Finished<B>>
         requires { self.old.called ≡ length self.old.tasks }
-        ensures { MatchOption result (GivesAll (family B.Kinds.Kinds) B.Kinds.admits keep machine.old self.old machine.new self.new) (GivesUpTo (family B.Kinds.Kinds) B.Kinds.admits machine.old self.old machine.new self.new) }
+        ensures { GivesHand B.Kinds.Kinds keep machine.old self.old machine.new self.new result }
     {
         self.places.forget();
         if give_all(machine, &mut self.places, keep) {

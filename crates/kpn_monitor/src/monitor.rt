@@ -1,14 +1,14 @@
 //! A machine under a lock.
-ghost use Rattle.std.specs.Prelude.{◌≡◌, ◌≢◌, ◌↔◌, ℕ, Some, IfOk, IfErr, IsSome, IsOk, IsTrue, length, slice_get};
+ghost use Rattle.std.specs.Prelude.{◌≡◌, ◌≢◌, ◌↔◌, IfOk, IfErr, IsOk, IsTrue, length};
 ghost use Rattle.kpn_model.specs.Families.{family};
 ghost use Rattle.std.specs.List.{sum_by};
 ghost use Rattle.kpn_model.specs.Semantics.{State, IsRun};
 ghost use mathlib.Core.List.{IsPrefix};
 ghost use Rattle.kpn_watch.specs.declared.progress.Phase.TheVariants.{Running};
 ghost use Rattle.kpn_watch.specs.Shown.{shows};
-ghost use Rattle.kpn_monitor.specs.Views.{AreNamesOf, Shares};
-ghost use Rattle.kpn_monitor.specs.Kept.{AddUp, IsClosed};
-ghost use Rattle.kpn_monitor.specs.Hands.{AsksInPlace, BooksAnswer, Exchanges, Receives};
+ghost use Rattle.kpn_monitor.specs.Views.{AreNamesOf, Shares, all_parts, all_entries};
+ghost use Rattle.kpn_monitor.specs.Kept.{AddUp, IsClosed, EndedIfMet};
+ghost use Rattle.kpn_monitor.specs.Hands.{AsksInPlace, BooksAnswer, Receives, ExchangesHand};
 
 use crate::booked::BookedRun;
 use crate::closed::{Closed, Unclosed};
@@ -155,7 +155,7 @@ impl<B: Body, E: EntryLedger, O: Ledger, H: Keeper> Monitor<B, E, O, H> {
         most: usize,
     ) -> Result<Next, Stranger<B>>
         requires { hand.old.called ≡ length hand.old.tasks }
-        ensures { Exchanges (family B.Kinds.Kinds) B.Kinds.admits E.net most hand.old seat.old hand.new seat.new result }
+        ensures { ExchangesHand B.Kinds.Kinds E.net most hand.old seat.old hand.new seat.new result }
     {
         hand.sharer.see_awake(self.awake.load(Ordering::SeqCst));
         let mut guarded = self.lock(rt);
@@ -343,10 +343,10 @@ impl<B: Body, E: EntryLedger, O: Ledger, H: Keeper> Monitor<B, E, O, H> {
         seats: Vec<Seat<E, O>>,
     ) -> Result<Closed<B::Kinds, E, H>, Unclosed<B, E, O, H>>
         ensures closed { IfOk result (λ c. IsClosed (family B.Kinds.Kinds) B.Kinds.admits E.net c) }
-        ensures receipts { IfOk result (λ c. c.receipts ≡ sum_by (λ (s : Shares). s.entries) seats.items) }
-        ensures ended { IfOk result (λ c. (k : ℕ) (s : Shares) → slice_get seats.items k ≡ Some s → s.overs ≡ 1 → IsSome c.machine.end) }
+        ensures receipts { IfOk result (λ c. c.receipts ≡ all_entries seats.items) }
+        ensures ended { IfOk result (λ c. EndedIfMet seats.items c.machine.end) }
         ensures seats { IfErr result (λ u. u.seats.items ≡ seats.items) }
-        ensures whole { sum_by (λ (s : Shares). s.parts) seats.items ≡ 65536 → IsOk result }
+        ensures whole { all_parts seats.items ≡ 65536 → IsOk result }
     {
         let Monitor {
             state,

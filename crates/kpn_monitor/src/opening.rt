@@ -2,6 +2,7 @@
 ghost use Rattle.std.specs.Prelude.{◌≡◌, [], MatchResult};
 ghost use Rattle.kpn_watch.specs.declared.progress.Phase.TheVariants.{Running};
 ghost use Rattle.kpn_machine.specs.MachineView.{IsFresh};
+ghost use Rattle.kpn_monitor.specs.Views.{IsOpeningOf, new_publisher, AreOfLedger};
 
 use kpn_body::Body;
 use kpn_machine::Machine;
@@ -41,7 +42,7 @@ impl<B: Body, H: Keeper> Opening<B, H> {
     /// Errors: out of memory. Returns the machine unchanged.
     pub fn new(alloc: Global, machine: Machine<B, H>) -> Result<Opening<B, H>, Machine<B, H>>
         requires { IsFresh machine }
-        ensures { MatchResult result (λ o. (o.machine ≡ machine) × (o.entries.parts ≡ 65536) × (o.overs.parts ≡ 65536)) (λ m. m ≡ machine) }
+        ensures { MatchResult result (IsOpeningOf machine) (λ m. m ≡ machine) }
     {
         let Ok((board, publisher)) = Board::new(alloc) else {
             return Err(machine);
@@ -73,9 +74,9 @@ impl<B: Body, H: Keeper> Opening<B, H> {
     pub(crate) fn into_parts(self) -> OpeningParts<B, H>
         ensures machine { (result.machine ≡ self.machine) × IsFresh result.machine }
         ensures board { result.board ≡ self.board }
-        ensures publisher { result.publisher ≡ record { board = self.board; entries = []; phase = Running; watchers = 0 } }
-        ensures entries { (result.entries.name ≡ self.entries.name) × (result.entries.parts ≡ self.entries.parts) × (result.entries.parts ≡ 65536) }
-        ensures overs { (result.overs.name ≡ self.overs.name) × (result.overs.parts ≡ self.overs.parts) × (result.overs.parts ≡ 65536) }
+        ensures publisher { result.publisher ≡ new_publisher self.board }
+        ensures entries { AreOfLedger result.entries.name result.entries.parts self.entries }
+        ensures overs { AreOfLedger result.overs.name result.overs.parts self.overs }
     {
         let Opening {
             machine,

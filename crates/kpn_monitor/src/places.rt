@@ -1,10 +1,7 @@
 //! The places of a hand's tasks.
-ghost use Rattle.std.specs.Prelude.{◌≡◌, ◌+◌, ◌<◌, ◌≤◌, List, [], ◌∷◌, ◌++◌, Some, true, false, length, take, drop, slice_get, slice_index_or, vec_capacity, IfOk, IfNone, IfSome, IsTrue, ◌↔◌};
+ghost use Rattle.std.specs.Prelude.{◌≡◌, ◌+◌, ◌<◌, ◌≤◌, [], ◌∷◌, ◌++◌, Some, true, false, length, take, drop, slice_get, vec_capacity, IfOk, IfNone, IfSome, IsTrue, ◌↔◌};
 ghost use Rattle.kpn_model.specs.Families.{family};
-ghost use Rattle.kpn_body.specs.Input.{Input};
-ghost use Rattle.kpn_commit.specs.declared.outcome.Outcome.{Outcome as OutcomeV};
-ghost use Rattle.kpn_machine.specs.Commits.{CommitsOn};
-ghost use Rattle.kpn_monitor.specs.Places.{CallsNext, HasFirst};
+ghost use Rattle.kpn_monitor.specs.Places.{CallsNext, HasFirst, Stays, settled_places, MovesUp};
 
 use kpn_body::{Body, Finished, Task};
 use kpn_machine::{Machine, Outcome};
@@ -139,7 +136,7 @@ impl<B: Body> Places<B> {
     #[inline(always)]
     pub(crate) fn stay<H: Keeper>(&mut self, machine: &mut Machine<B, H>) -> bool
         requires { HasFirst machine.old self.old }
-        ensures stays { result ≡ true → (i j : Input) × (o : OutcomeV) × (rest : List Input) × (self.old.tasks ≡ i ∷ rest) × (self.new ≡ record { again = self.old.again ++ j ∷ []; tasks = rest; called = self.new.called; given = self.new.given; outcomes = self.old.outcomes ++ o ∷ [] }) × (self.old.called ≡ self.new.called + 1) × CommitsOn (family B.Kinds.Kinds) machine.old i o j machine.new }
+        ensures stays { result ≡ true → Stays (family B.Kinds.Kinds) machine.old self.old machine.new self.new }
         ensures same { result ≡ false → (self.new ≡ self.old) × (machine.new ≡ machine.old) }
     {
         let answer = self.answers[self.given];
@@ -167,7 +164,7 @@ impl<B: Body> Places<B> {
     /// Makes the tasks that went out again the next to call.
     pub(crate) fn settle(&mut self)
         requires { self.old.tasks ≡ [] }
-        ensures { self.new ≡ record { again = []; tasks = self.old.again; called = 0; given = 0; outcomes = self.old.outcomes } }
+        ensures { self.new ≡ settled_places self.old }
     {
         self.places.truncate(self.kept);
         self.answers.clear();
@@ -207,7 +204,7 @@ impl<B: Body> Places<B> {
 fn move_up<T>(places: &mut Vec<T>, to: usize, from: usize)
     requires order { to ≤ from }
     requires within { from < length places.old.items }
-    ensures first { (d : T) → take (to + 1) places.new.items ≡ take to places.old.items ++ slice_index_or places.old.items from d ∷ [] }
+    ensures first { MovesUp places.old.items to from places.new.items }
     ensures rest { drop (from + 1) places.new.items ≡ drop (from + 1) places.old.items }
     ensures len { length places.new.items ≡ length places.old.items }
     ensures capacity { vec_capacity places.new ≡ vec_capacity places.old }

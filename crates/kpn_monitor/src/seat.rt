@@ -1,7 +1,6 @@
 //! A worker's share of the ledgers.
-ghost use Rattle.std.specs.Prelude.{◌≡◌, ◌+◌, ◌-◌, ◌<◌, ◌≤◌, ◌^◌, [], true, false, MatchOption, IfNone, IfSome};
-ghost use Rattle.std.specs.List.{sum_by};
-ghost use Rattle.kpn_monitor.specs.Views.{Shares};
+ghost use Rattle.std.specs.Prelude.{◌≡◌, ◌+◌, ◌<◌, ◌≤◌, ◌^◌, [], true, false, MatchOption, IfNone, IfSome};
+ghost use Rattle.kpn_monitor.specs.Views.{Shares, AreEmptyShares, SplitsOff, all_parts, all_entries, all_overs, HoldsEntries, HoldsOvers};
 
 use crate::naming::EntryLedger;
 use std::marker::Model;
@@ -31,7 +30,7 @@ impl<E: EntryLedger, O: Ledger> Model for Seat<E, O> {
 
 impl<E: EntryLedger, O: Ledger> Seat<E, O> {
     pub(crate) fn whole(parts: u32, entry_share: Share<E>, over_share: Share<O>) -> Seat<E, O>
-        requires { (0 < parts) × (entry_share.parts ≡ parts) × (entry_share.amount ≡ 0) × (over_share.parts ≡ parts) × (over_share.amount ≡ 0) }
+        requires { AreEmptyShares parts entry_share.parts entry_share.amount over_share.parts over_share.amount }
         ensures { result ≡ record { parts = parts; entries = 0; overs = 0 } }
     {
         Seat {
@@ -46,7 +45,7 @@ impl<E: EntryLedger, O: Ledger> Seat<E, O> {
     /// Splits off a seat of one part with empty shares; returns `None` exactly if only one part is left.
     /// Takes no lock.
     pub fn split(&mut self) -> Option<Seat<E, O>>
-        ensures { MatchOption result ((self.old.parts ≡ 1) × (self.new ≡ self.old)) (λ s. (s ≡ record { parts = 1; entries = 0; overs = 0 }) × (1 < self.old.parts) × (self.new ≡ record self.old { parts = self.old.parts - 1 })) }
+        ensures { MatchOption result ((self.old.parts ≡ 1) × (self.new ≡ self.old)) (SplitsOff self.old self.new) }
     {
         if self.parts == 1 {
             return None;
@@ -108,9 +107,9 @@ impl<E: EntryLedger, O: Ledger> Seat<E, O> {
 }
 
 pub(crate) fn totals_of<E: EntryLedger, O: Ledger>(seats: &[Seat<E, O>]) -> (u128, u128, u128)
-    ensures parts { result.0 ≡ sum_by (λ (s : Shares). s.parts) seats.now }
-    ensures entries { result.1 ≡ sum_by (λ (s : Shares). s.entries) seats.now }
-    ensures overs { result.2 ≡ sum_by (λ (s : Shares). s.overs) seats.now }
+    ensures parts { result.0 ≡ all_parts seats.now }
+    ensures entries { result.1 ≡ all_entries seats.now }
+    ensures overs { result.2 ≡ all_overs seats.now }
 {
     let (mut parts, mut entries, mut overs) = (0u128, 0u128, 0u128);
     for seat in seats {
@@ -126,8 +125,8 @@ pub(crate) fn merge<E: EntryLedger, O: Ledger>(
     mut seats: Vec<Seat<E, O>>,
 ) -> Option<(Share<E>, Share<O>)>
     ensures none { IfNone result (seats.items ≡ []) }
-    ensures entries { IfSome result (λ r. (r.0.parts ≡ sum_by (λ (s : Shares). s.parts) seats.items) × (r.0.amount ≡ sum_by (λ (s : Shares). s.entries) seats.items)) }
-    ensures overs { IfSome result (λ r. (r.1.parts ≡ sum_by (λ (s : Shares). s.parts) seats.items) × (r.1.amount ≡ sum_by (λ (s : Shares). s.overs) seats.items)) }
+    ensures entries { IfSome result (λ r. HoldsEntries r.0.parts r.0.amount seats.items) }
+    ensures overs { IfSome result (λ r. HoldsOvers r.1.parts r.1.amount seats.items) }
 {
     let (mut entries, mut overs) = seats.pop()?.into_shares();
     while let Some(seat) = seats.pop() {

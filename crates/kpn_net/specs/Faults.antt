@@ -68,6 +68,11 @@ card_with kind args =
     let arg : ℕ → ℕ = λ k. unsigned_abs (slice_index_or args k (pos 0)) in
     record { kind = kind; args = arg 0 ∷ arg 1 ∷ arg 2 ∷ [] }
 
+-- the faults of a sketch, from the lowest number on
+abbrev pub faults_in_order : List NetFault
+faults_in_order =
+    Version ∷ Counts ∷ Name ∷ Kind ∷ Args ∷ NoEnd ∷ Twice ∷ Unused ∷ Sorts ∷ Capacity ∷ Budget ∷ Tokens ∷ Step ∷ []
+
 module _ (named : List ℕ → Option (ℕ × ℕ)) (signature : Card → Option Signature) where
   abbrev pub signature_of : ProcessSketch → Option Signature
   signature_of p = option_and_then (λ kind. signature (card_with kind.0 p.args)) (named p.kind)
@@ -78,8 +83,12 @@ module _ (named : List ℕ → Option (ℕ × ℕ)) (signature : Card → Option
   abbrev pub takes_other_count : ProcessSketch → Bool
   takes_other_count p = option_map_or (λ kind. not (length p.args == kind.1)) (named p.kind) true
 
+  -- an argument is negative, or no card with these arguments has ports
+  abbrev pub has_rejected_args : ProcessSketch → Bool
+  has_rejected_args p = list_any (λ z. int_lt z (pos 0)) p.args || is_none (signature_of p)
+
   abbrev pub has_wrong_args : ProcessSketch → Bool
-  has_wrong_args p = takes_other_count p || (nat_lt 3 (length p.args) || (list_any (λ z. int_lt z (pos 0)) p.args || is_none (signature_of p)))
+  has_wrong_args p = takes_other_count p || (nat_lt 3 (length p.args) || has_rejected_args p)
 
   module _ (sketch : Sketch) where
     abbrev pub signature_named : List ℕ → Option Signature
@@ -91,32 +100,54 @@ module _ (named : List ℕ → Option (ℕ × ℕ)) (signature : Card → Option
     abbrev pub sketched_in_sort : ChannelSketch → Option Sort
     sketched_in_sort c = option_and_then (λ s. port_sort s.ins c.input) (signature_named c.to)
 
+    -- a channel begins or ends at this port
+    abbrev pub has_channel_from : List ℕ → ℤ → Bool
+    has_channel_from name k = list_any (λ c. bytes_eq c.from name && int_eq c.out k) sketch.channels
+
+    abbrev pub has_channel_to : List ℕ → ℤ → Bool
+    has_channel_to name k = list_any (λ c. bytes_eq c.to name && int_eq c.input k) sketch.channels
+
     -- the port exists, and has no channel
     abbrev pub is_unused_out : List ℕ → Signature → ℤ → Bool
-    is_unused_out name s k = is_some (port_sort s.outs k) && not (list_any (λ c. bytes_eq c.from name && int_eq c.out k) sketch.channels)
+    is_unused_out name s k = is_some (port_sort s.outs k) && not (has_channel_from name k)
 
     abbrev pub is_unused_in : List ℕ → Signature → ℤ → Bool
-    is_unused_in name s k = is_some (port_sort s.ins k) && not (list_any (λ c. bytes_eq c.to name && int_eq c.input k) sketch.channels)
+    is_unused_in name s k = is_some (port_sort s.ins k) && not (has_channel_to name k)
 
     abbrev pub is_unused : List ℕ → Signature → ℤ → Bool
     is_unused name s k = is_unused_out name s k || is_unused_in name s k
 
+    -- one of the three ports on either side exists and has no channel
+    abbrev pub has_unused : List ℕ → Signature → Bool
+    has_unused name s = is_unused name s (pos 0) || (is_unused name s (pos 1) || is_unused name s (pos 2))
+
     abbrev pub has_unused_port : ProcessSketch → Bool
-    has_unused_port p =
-        option_map_or (λ s. is_unused p.name s (pos 0) || (is_unused p.name s (pos 1) || is_unused p.name s (pos 2))) (signature_of p) false
+    has_unused_port p = option_map_or (λ s. has_unused p.name s) (signature_of p) false
+
+    -- a process at an end does not exist or lacks the port
+    abbrev pub is_without_end : ChannelSketch → Bool
+    is_without_end c = is_none (sketched_out_sort c) || is_none (sketched_in_sort c)
+
+    -- a port at an end is missing or has another sort
+    abbrev pub is_of_other_sort : ChannelSketch → Bool
+    is_of_other_sort c = not (is_sort c.sort (sketched_out_sort c)) || not (is_sort c.sort (sketched_in_sort c))
+
+    -- there are more than may be
+    abbrev pub has_too_many : Bool
+    has_too_many = nat_lt MOST_PROCESSES (length sketch.processes) || nat_lt MOST_CHANNELS (length sketch.channels)
 
     abbrev pub has_fault : NetFault → Bool
     has_fault Version = not (int_eq sketch.version (pos 1) || is_two sketch.version)
-    has_fault Counts = length sketch.processes == 0 || (nat_lt MOST_PROCESSES (length sketch.processes) || nat_lt MOST_CHANNELS (length sketch.channels))
+    has_fault Counts = length sketch.processes == 0 || has_too_many
     has_fault Name =
         (list_any (λ p. not (is_name p.name)) sketch.processes || list_any (λ c. not (is_name c.name)) sketch.channels)
         || (any_pair same_process sketch.processes || any_pair same_channel sketch.channels)
     has_fault Kind = list_any has_unknown_kind sketch.processes
     has_fault Args = list_any has_wrong_args sketch.processes
-    has_fault NoEnd = list_any (λ c. is_none (sketched_out_sort c) || is_none (sketched_in_sort c)) sketch.channels
+    has_fault NoEnd = list_any (λ c. is_without_end c) sketch.channels
     has_fault Twice = any_pair same_out sketch.channels || any_pair same_in sketch.channels
     has_fault Unused = list_any has_unused_port sketch.processes
-    has_fault Sorts = list_any (λ c. not (is_sort c.sort (sketched_out_sort c)) || not (is_sort c.sort (sketched_in_sort c))) sketch.channels
+    has_fault Sorts = list_any (λ c. is_of_other_sort c) sketch.channels
     has_fault Capacity = list_any (λ c. is_outside (pos 1) (pos (ceiling_in sketch.version)) c.capacity) sketch.channels
     has_fault Budget = is_outside (pos 1) (pos (greatest_budget_in sketch.version)) sketch.budget
     has_fault Tokens = list_any has_wrong_tokens sketch.channels
@@ -125,4 +156,4 @@ module _ (named : List ℕ → Option (ℕ × ℕ)) (signature : Card → Option
 
     -- the fault with the lowest number whose condition holds
     abbrev pub first_fault : Option NetFault
-    first_fault = find has_fault (Version ∷ Counts ∷ Name ∷ Kind ∷ Args ∷ NoEnd ∷ Twice ∷ Unused ∷ Sorts ∷ Capacity ∷ Budget ∷ Tokens ∷ Step ∷ [])
+    first_fault = find has_fault faults_in_order

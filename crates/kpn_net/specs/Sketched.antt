@@ -1,5 +1,5 @@
 -- The network of a sketch.
-use Rattle.std.specs.Prelude.{ℕ, List, map, Option, unsigned_abs, unwrap_or, position}
+use Rattle.std.specs.Prelude.{ℕ, List, map, Option, unsigned_abs, unwrap_or, position, ◌≡◌, ◌≢◌, Some, None}
 use Rattle.std.specs.Str.{bytes_eq}
 use Rattle.kpn_model.specs.declared.token.Token.{Token}
 use Rattle.kpn_model.specs.declared.token.Token.TheVariants.{Word, Flag}
@@ -11,7 +11,11 @@ use Rattle.kpn_sketch.specs.declared.sketch.Sketch.{Sketch}
 use Rattle.kpn_model.specs.declared.parts.Process.{Process}
 use Rattle.kpn_model.specs.declared.parts.Channel.{Channel}
 use Rattle.kpn_model.specs.Network.{Network}
-use Rattle.kpn_net.specs.Faults.{card_with}
+use Rattle.kpn_model.specs.declared.kinds.Card.{Card}
+use Rattle.kpn_model.specs.declared.kinds.Signature.{Signature}
+use Rattle.kpn_sketch.specs.declared.fault.NetFault.{NetFault}
+use Rattle.kpn_sketch.specs.declared.fault.NetFault.TheVariants.{Memory}
+use Rattle.kpn_net.specs.Faults.{card_with, first_fault}
 use Rattle.kpn_model.specs.texts.Version.{ceiling_in}
 
 abbrev pub index_of : List ProcessSketch → List ℕ → ℕ
@@ -46,3 +50,12 @@ net_of named s = record {
   step = unsigned_abs s.step;
   ceiling = ceiling_in s.version;
 }
+
+module _ (named : List ℕ → Option (ℕ × ℕ)) (signature : Card → Option Signature) (sketch : Sketch) where
+  -- the sketch has no fault, and the network is the sketch's
+  abbrev pub IsNetOfSketch : Network → Type 0
+  IsNetOfSketch net = (first_fault named signature sketch ≡ None) × (net ≡ net_of named sketch)
+
+  -- the fault is the first of the sketch, unless memory is missing
+  abbrev pub IsSketchFault : NetFault → Type 0
+  IsSketchFault fault = fault ≢ Memory → first_fault named signature sketch ≡ Some fault

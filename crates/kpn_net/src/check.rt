@@ -1,10 +1,10 @@
 //! Makes a network of a sketch.
-ghost use Rattle.std.specs.Prelude.{All, ◌≡◌, ◌≢◌, Some, None, IfOk, IfErr, map, position};
+ghost use Rattle.std.specs.Prelude.{All, ◌≡◌, Some, None, IfOk, IfErr, map, position};
 ghost use Rattle.std.specs.Str.{bytes_eq};
 ghost use Rattle.kpn_model.specs.Lawful.{CardFits, Fits};
 ghost use Rattle.kpn_model.specs.Valid.{IsValid};
 ghost use Rattle.kpn_net.specs.Faults.{first_fault};
-ghost use Rattle.kpn_net.specs.Sketched.{net_of, process_in, token_in, channel_in, index_of};
+ghost use Rattle.kpn_net.specs.Sketched.{process_in, token_in, channel_in, index_of, IsNetOfSketch, IsSketchFault};
 
 use crate::faults::first_fault;
 use crate::ports::card_with;
@@ -31,9 +31,9 @@ pub trait Check {
     /// `Capacity`, `Budget`, `Tokens` and `Step` whose condition holds of the sketch; or `Memory` at any time,
     /// if out of memory. Without such a fault it fails only with `Memory`.
     final fn check(alloc: Global, sketch: &Sketch) -> Result<Net<Self::Kinds>, NetFault>
-        ensures ok { IfOk result (λ n. (first_fault Self.Kinds.named Self.Kinds.signature sketch.now ≡ None) × (n ≡ net_of Self.Kinds.named sketch.now)) }
+        ensures ok { IfOk result (IsNetOfSketch Self.Kinds.named Self.Kinds.signature sketch.now) }
         ensures valid { IfOk result (IsValid Self.Kinds.signature) }
-        ensures fault { IfErr result (λ e. e ≢ NetFault.Memory → first_fault Self.Kinds.named Self.Kinds.signature sketch.now ≡ Some e) }
+        ensures fault { IfErr result (IsSketchFault Self.Kinds.named Self.Kinds.signature sketch.now) }
     {
         if let Some(fault) = first_fault::<Self::Kinds>(sketch) {
             return Err(fault);

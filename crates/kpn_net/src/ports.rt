@@ -1,10 +1,10 @@
 //! Faults of kinds, their arguments and their ports.
-ghost use Rattle.std.specs.Prelude.{◌≡◌, ◌&&◌, ◌||◌, not, pos, is_none, unsigned_abs, slice_index_or};
+ghost use Rattle.std.specs.Prelude.{◌≡◌, ◌&&◌, ◌||◌, pos, is_none, unsigned_abs, slice_index_or};
 ghost use Rattle.std.specs.List.{list_any};
 ghost use Rattle.std.specs.Ordering.{int_eq};
 ghost use Rattle.std.specs.Str.{bytes_eq};
 ghost use Rattle.kpn_model.specs.Lawful.{CardFits};
-ghost use Rattle.kpn_net.specs.Faults.{same_out, same_in, port_sort, is_sort, card_with, signature_of, has_unknown_kind, takes_other_count, has_wrong_args, signature_named, sketched_out_sort, sketched_in_sort, is_unused_out, is_unused_in, is_unused, has_unused_port, has_fault};
+ghost use Rattle.kpn_net.specs.Faults.{same_out, same_in, port_sort, is_sort, card_with, signature_of, has_unknown_kind, takes_other_count, has_wrong_args, signature_named, sketched_out_sort, sketched_in_sort, is_unused_out, is_unused_in, is_unused, has_unused_port, has_fault, is_of_other_sort, is_without_end};
 
 use crate::names::{Clash, any_clash, process_named};
 use kpn_model::{Card, Kinds, Signature, Sort};
@@ -214,7 +214,7 @@ pub(crate) fn has_process_with_wrong_args<K: Kinds>(sketch: &Sketch) -> bool
 
 /// Whether the channel begins or ends at no port: its process doesn't exist or lacks the port.
 pub fn lacks_end<K: Kinds>(sketch: &Sketch, channel: &ChannelSketch) -> bool
-    ensures { result ≡ (is_none (sketched_out_sort K.named K.signature sketch.now channel.now) || is_none (sketched_in_sort K.named K.signature sketch.now channel.now)) }
+    ensures { result ≡ is_without_end K.named K.signature sketch.now channel.now }
 {
     out_sort::<K>(sketch, channel).is_none() || in_sort::<K>(sketch, channel).is_none()
 }
@@ -251,7 +251,7 @@ pub(crate) fn has_unused_ports<K: Kinds>(sketch: &Sketch) -> bool
 
 /// Whether a port at an end of the channel is missing or has another sort than the channel.
 pub fn has_wrong_sort<K: Kinds>(sketch: &Sketch, channel: &ChannelSketch) -> bool
-    ensures { result ≡ (not (is_sort channel.now.sort (sketched_out_sort K.named K.signature sketch.now channel.now)) || not (is_sort channel.now.sort (sketched_in_sort K.named K.signature sketch.now channel.now))) }
+    ensures { result ≡ is_of_other_sort K.named K.signature sketch.now channel.now }
 {
     !is_sort(channel.sort, out_sort::<K>(sketch, channel))
         || !is_sort(channel.sort, in_sort::<K>(sketch, channel))

@@ -9,8 +9,16 @@ in_at channels p k = position (λ l. (l.reader == p) && (l.input == k)) channels
 abbrev pub out_at : List Channel → ℕ → ℕ → Option ℕ
 out_at channels p k = position (λ l. (l.writer == p) && (l.out == k)) channels
 
+-- the channels at the three inputs of p
+abbrev pub ins_at : List Channel → ℕ → List (Option ℕ)
+ins_at channels p = in_at channels p 0 ∷ in_at channels p 1 ∷ in_at channels p 2 ∷ []
+
+-- the channels at the three outputs of p
+abbrev pub outs_at : List Channel → ℕ → List (Option ℕ)
+outs_at channels p = out_at channels p 0 ∷ out_at channels p 1 ∷ out_at channels p 2 ∷ []
+
 abbrev pub ports_at : List Channel → ℕ → Ports
-ports_at channels p = record { ins = in_at channels p 0 ∷ in_at channels p 1 ∷ in_at channels p 2 ∷ []; outs = out_at channels p 0 ∷ out_at channels p 1 ∷ out_at channels p 2 ∷ [] }
+ports_at channels p = record { ins = ins_at channels p; outs = outs_at channels p }
 
 abbrev pub no_ports : Ports
 no_ports = record { ins = []; outs = [] }

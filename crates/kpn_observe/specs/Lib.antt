@@ -1,1 +1,2 @@
 pub mod WatchedFaults
+pub mod WatchedReports

@@ -1,9 +1,8 @@
 //! Runs by threads of the caller's own.
 ghost use Rattle.std.specs.Prelude.{◌≡◌, ◌+◌, ◌<◌, ◌≤◌, [], length, map, vec_capacity, Ok, IfOk, IfErr, IfNone, OnOk};
-ghost use Rattle.std.specs.List.{sum_by};
 ghost use Rattle.kpn_model.specs.Families.{family};
 ghost use Rattle.kpn_machine.specs.Opening.{cards_of};
-ghost use Rattle.kpn_monitor.specs.Views.{AreNamesOf, Shares};
+ghost use Rattle.kpn_monitor.specs.Views.{AreNamesOf, Shares, all_parts};
 ghost use Rattle.kpn_monitor.specs.Kept.{IsClosed};
 ghost use Rattle.kpn_monitor.specs.Hands.{BooksAnswer, Receives};
 ghost use Rattle.kpn_run.specs.Runs.{IsWatchedRun};
@@ -306,7 +305,7 @@ fn gather<E: EntryLedger, O: Ledger>(
     seats: &mut Vec<Seat<E, O>>,
 )
     requires { (seats.old.items ≡ []) × (length crewed.items < vec_capacity seats.old) }
-    ensures { sum_by (λ (s : Shares). s.parts) seats.new.items ≡ rest.parts + length crewed.items }
+    ensures { all_parts seats.new.items ≡ rest.parts + length crewed.items }
 {
     seats.push_reserved(rest);
     leave_all(crewed, seats);
@@ -317,7 +316,7 @@ fn leave_all<E: EntryLedger, O: Ledger>(
     seats: &mut Vec<Seat<E, O>>,
 )
     requires { length crewed.items + length seats.old.items ≤ vec_capacity seats.old }
-    ensures { sum_by (λ (s : Shares). s.parts) seats.new.items ≡ sum_by (λ (s : Shares). s.parts) seats.old.items + length crewed.items }
+    ensures { all_parts seats.new.items ≡ all_parts seats.old.items + length crewed.items }
 {
     while let Some(seat) = crewed.pop() {
         seats.push_reserved(seat.leave());

@@ -1,8 +1,7 @@
 //! The report of a run by any threads.
-ghost use Rattle.std.specs.Prelude.{◌≡◌, Some, is_some, IfOk, IfSome};
-ghost use Rattle.kpn_model.specs.declared.history.End.{End as EndV};
+ghost use Rattle.std.specs.Prelude.{◌≡◌, is_some, IfOk};
 ghost use Rattle.kpn_model.specs.Families.{family};
-ghost use Rattle.kpn_run.specs.Reports.{IsReportOf};
+ghost use Rattle.kpn_observe.specs.WatchedReports.{TellsIfEnded};
 
 use kpn_machine::Chronicle;
 use kpn_model::Kinds;
@@ -26,7 +25,7 @@ pub fn chronicle_report<K: Kinds>(
     chronicle: &Chronicle<K>,
 ) -> Result<Option<Report>, AllocError>
     ensures some { IfOk result (λ r. is_some r ≡ is_some chronicle.now.end) }
-    ensures tells { (cause : EndV) → chronicle.now.end ≡ Some cause → IfOk result (λ o. IfSome o (λ r. IsReportOf (family K.Kinds) chronicle.now cause r.end r.detail)) }
+    ensures tells { TellsIfEnded (family K.Kinds) chronicle.now result }
 {
     let Some(end) = chronicle.end() else {
         return Ok(None);

@@ -3,12 +3,11 @@ ghost use Rattle.std.specs.Prelude.{◌≡◌, ◌<◌, ◌≤◌, ◌⊎◌, ma
 ghost use Rattle.kpn_model.specs.Families.{family};
 ghost use Rattle.kpn_machine.specs.Opening.{cards_of};
 ghost use Rattle.kpn_laws.specs.RoomOfRun.{TakesLeastRoom};
-ghost use Rattle.kpn_laws.specs.StreamsOfRun.{ApproachLeastSolution};
 ghost use Rattle.kpn_monitor.specs.Views.{AreNamesOf};
 ghost use Rattle.kpn_monitor.specs.Kept.{IsClosed};
-ghost use Rattle.kpn_run.specs.Refusals.{FailsOpened, RunsBodies};
-ghost use Rattle.kpn_run.specs.Runs.{EndSparesBudget, IsComparable, IsWatchedRun, StaysWithinCapacities};
-ghost use Rattle.kpn_observe.specs.WatchedFaults.{FailsWatched, RunsWatched};
+ghost use Rattle.kpn_run.specs.Refusals.{FailsOpened};
+ghost use Rattle.kpn_run.specs.Runs.{EndSparesBudget, IsComparable, StaysWithinCapacities, ApproachesSolution};
+ghost use Rattle.kpn_observe.specs.WatchedFaults.{FailsWatched, WatchesRun, WatchesBodies};
 
 use crate::WatchedRun;
 use crate::bell::Bell;
@@ -77,7 +76,7 @@ pub fn run_watched<B: Body, R: Wait + Clock + Threads + Sync, G: Gate, V: Observ
     ensures budget { IfOk result (λ r. EndSparesBudget (family B.Kinds.Kinds) net r.machine.end) }
     ensures comparable { IfOk result (λ r. IsComparable (family B.Kinds.Kinds) net r.machine.history) }
     ensures room { IfOk result (λ r. TakesLeastRoom (family B.Kinds.Kinds) net r.machine.history r.machine.state) }
-    ensures streams { IfOk result (λ r. ApproachLeastSolution (family B.Kinds.Kinds) net r.machine.history r.machine.state) }
+    ensures streams { IfOk result (λ r. ApproachesSolution (family B.Kinds.Kinds) net r.machine) }
     ensures cards { OnOk result (map B.card bodies.items ≡ cards_of net.processes) }
     ensures many { (workers ≡ 0) ⊎ (16 < workers) → result ≡ Err (WatchedFault.Failed (RunFault.Workers net bodies)) }
     ensures failed { IfErr result (FailsWatched B.card net bodies.items workers (WatchedFault.Stopped net bodies)) }
@@ -118,7 +117,7 @@ pub fn run_watched_with_keeper<
     period: Duration,
     observer: &V,
 ) -> Result<WatchedRun<B::Kinds, H>, WatchedFault<B>>
-    ensures { RunsWatched (family B.Kinds.Kinds) B.Kinds.admits B.card net bodies.items workers (RunFault.Workers net bodies) (WatchedFault.Stopped net bodies) result }
+    ensures { WatchesRun B.Kinds.Kinds B.card net bodies.items workers (WatchedFault.Stopped net bodies) result }
 {
     let Some(workers) = WorkerCount::new(workers) else {
         return Err(WatchedFault::Failed(RunFault::Workers { net, bodies }));
@@ -164,7 +163,7 @@ fn run_bodies<B: Body, H: Keeper + Send, R: Wait + Clock + Threads + Sync, G: Ga
     request: RunRequest<B>,
     watch: &Watch<G, V>,
 ) -> Result<WatchedRun<B::Kinds, H>, Failure<B>>
-    ensures { RunsBodies (IsWatchedRun (family B.Kinds.Kinds) B.Kinds.admits request.net) B.card request.net request.bodies.items result }
+    ensures { WatchesBodies B.Kinds.Kinds B.card request.net request.bodies.items result }
 {
     let RunRequest {
         net,

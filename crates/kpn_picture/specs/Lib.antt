@@ -2,3 +2,4 @@ pub mod Titles
 pub mod Caption
 pub mod Edges
 pub mod Picture
+pub mod Left

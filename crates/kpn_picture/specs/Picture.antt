@@ -19,39 +19,63 @@ use Rattle.kpn_standard.specs.Locals.{at}
 use Rattle.kpn_picture.specs.declared.edges.EdgeForm.{EdgeForm}
 use Rattle.kpn_picture.specs.declared.looks.Direction.{Direction}
 use Rattle.kpn_picture.specs.declared.looks.Direction.TheVariants.{Right, Down}
-use Rattle.kpn_picture.specs.Titles.{below}
+use Rattle.kpn_picture.specs.Titles.{below, KindTitles}
 use Rattle.kpn_picture.specs.Caption.{caption}
 
 abbrev pub rankdir : Direction → List ℕ
 rankdir Right = codes "LR"
 rankdir Down = codes "TB"
 
+-- how the graph, its nodes and its edges look
+abbrev pub graph_look : List ℕ
+graph_look = codes ", nodesep=0.4, ranksep=0.6, labelloc=t, fontname=\"Helvetica\", fontsize=16];\n"
+
+abbrev pub node_look : List ℕ
+node_look =
+    codes "  node [shape=box, style=\"rounded,filled\", fillcolor=\"#eef3fa\", color=\"#44546a\""
+    ++ codes ", fontname=\"Helvetica\"];\n"
+
+abbrev pub every_edge_look : List ℕ
+every_edge_look =
+    codes "  edge [color=\"#44546a\", fontcolor=\"#44546a\", fontname=\"Helvetica\", fontsize=11"
+    ++ codes ", labelfontsize=9, labeldistance=1.5, labelangle=25];\n"
+
 abbrev pub head : Direction → List ℕ
 head direction =
-    codes "digraph kpn {\n  graph [rankdir=" ++ rankdir direction ++ codes ", nodesep=0.4, ranksep=0.6, labelloc=t, fontname=\"Helvetica\", fontsize=16];\n"
-    ++ codes "  node [shape=box, style=\"rounded,filled\", fillcolor=\"#eef3fa\", color=\"#44546a\", fontname=\"Helvetica\"];\n"
-    ++ codes "  edge [color=\"#44546a\", fontcolor=\"#44546a\", fontname=\"Helvetica\", fontsize=11, labelfontsize=9, labeldistance=1.5, labelangle=25];\n"
+    codes "digraph kpn {\n  graph [rankdir=" ++ rankdir direction ++ graph_look ++ node_look ++ every_edge_look
 
 -- a text that needs no escapes between quotes
 abbrev pub IsPlain : List ℕ → Type 0
 IsPlain text = All (λ b. (b ≢ 34) × (b ≢ 92) × (b ≢ 10)) text
 
+-- an argument below 0
+abbrev pub negative_part : Card → ℕ → List ℕ
+negative_part card k = codes " -" ++ decimal (at card.args k + 1)
+
 -- argument k of a card, if its title has it; for an argument -1 - n below 0 the card has n
 abbrev pub argument_part : ℕ → Card → ℕ → List ℕ
 argument_part arity card k =
     if nat_le arity k then [] else
-    if nat_lt k (below card arity) then codes " -" ++ decimal (at card.args k + 1) else codes " " ++ decimal (at card.args k)
+    if nat_lt k (below card arity) then negative_part card k else codes " " ++ decimal (at card.args k)
 
 -- a sort other than words; and a capacity that was not 1 or has grown
 abbrev pub sort_part : Sort → List ℕ
 sort_part Words = []
 sort_part Flags = codes "\\nflags"
 
+-- both capacities
+abbrev pub grown_text : ℕ → ℕ → List ℕ
+grown_text at_first last = decimal at_first ++ codes " -> " ++ decimal last
+
 abbrev pub capacity_text : ℕ → ℕ → List ℕ
-capacity_text at_first last = if at_first == last then decimal last else decimal at_first ++ codes " -> " ++ decimal last
+capacity_text at_first last = if at_first == last then decimal last else grown_text at_first last
+
+-- the line of a label that says the capacity
+abbrev pub capacity_line : ℕ → ℕ → List ℕ
+capacity_line at_first last = codes "\\ncapacity " ++ capacity_text at_first last
 
 abbrev pub capacity_part : ℕ → ℕ → List ℕ
-capacity_part at_first last = if (at_first == 1) && (last == 1) then [] else codes "\\ncapacity " ++ capacity_text at_first last
+capacity_part at_first last = if (at_first == 1) && (last == 1) then [] else capacity_line at_first last
 
 abbrev pub held_part : ℕ → List ℕ
 held_part zero = []
@@ -104,15 +128,21 @@ link_part true true = codes ", arrowhead=none, minlen=0"
 
 -- a kind, with its arguments
 abbrev pub kind_text : (ℕ → List ℕ × ℕ) → Card → List ℕ
-kind_text title card = let t = title card.kind in t.0 ++ argument_part t.1 card 0 ++ argument_part t.1 card 1 ++ argument_part t.1 card 2
+kind_text title card =
+    let t = title card.kind in
+    t.0 ++ argument_part t.1 card 0 ++ argument_part t.1 card 1 ++ argument_part t.1 card 2
 
 -- a byte of a title, as it is drawn: a blank, unless it is printable ASCII and no quote and no backslash
 abbrev pub drawn_byte : ℕ → ℕ
 drawn_byte b = if nat_lt b 32 || (nat_lt 126 b || (b == 34 || b == 92)) then 32 else b
 
+-- the first 37 bytes of a title and `...`
+abbrev pub shortened_title : List ℕ → List ℕ
+shortened_title title = map drawn_byte (take 37 title) ++ codes "..."
+
 -- a title, as it is drawn: if it has more than 40 bytes, the first 37 and `...`
 abbrev pub title_text : List ℕ → List ℕ
-title_text title = if nat_lt 40 (length title) then map drawn_byte (take 37 title) ++ codes "..." else map drawn_byte title
+title_text title = if nat_lt 40 (length title) then shortened_title title else map drawn_byte title
 
 -- what stands in a box below the name: the title of the process, or if that is empty, its kind
 abbrev pub box_title : (ℕ → List ℕ × ℕ) → Card → List ℕ → List ℕ
@@ -130,10 +160,14 @@ stays l = are_in_a_row l.writer l.reader
 abbrev pub is_branch : Channel → Bool
 is_branch l = nat_lt 0 l.out || nat_lt 0 l.input
 
+-- more than half of the channels stay in a row
+abbrev pub mostly_stays : Network → Bool
+mostly_stays net = nat_lt (length net.channels / 2) (count_by stays net.channels)
+
 -- a chain of more than twelve processes has rows, if more than half of its channels stay in a row
 abbrev pub has_rows : Network → Bool
 has_rows net =
-    nat_lt 12 (length net.processes) && count_by is_branch net.channels == 0 && nat_lt (length net.channels / 2) (count_by stays net.channels)
+    nat_lt 12 (length net.processes) && count_by is_branch net.channels == 0 && mostly_stays net
 
 -- a channel to another row does not affect the layout
 abbrev pub row_part : Bool → Bool → List ℕ
@@ -146,6 +180,10 @@ held_tokens rests c at_first = length (option_map_or (λ rest. rest) (slice_get 
 abbrev pub last_capacity : List ℕ → ℕ → ℕ → ℕ
 last_capacity capacities c at_first = option_map_or (λ n. n) (slice_get capacities c) at_first
 
+-- its capacity at the end, if known, beside that at first
+abbrev pub last_capacity_part : List ℕ → ℕ → ℕ → List ℕ
+last_capacity_part capacities c at_first = capacity_part at_first (last_capacity capacities c at_first)
+
 module _ (net : Network) where
   -- the place in which a run left a process
   abbrev pub place_label : Place → List ℕ
@@ -156,27 +194,50 @@ module _ (net : Network) where
   abbrev pub has_name_of : ℕ → ℕ → Bool
   has_name_of p c = bytes_eq (process_name net p) (channel_name net c)
 
+  -- its place, if known
+  abbrev pub place_part : Option Place → List ℕ
+  place_part place = option_map_or place_label place []
+
+  -- the channel, if there is one, has its name
+  abbrev pub has_name_if : ℕ → Option ℕ → Bool
+  has_name_if p channel = option_map_or (has_name_of p) channel false
+
+  -- how process p looks
+  abbrev pub look_at : List Place → ℕ → List ℕ
+  look_at places p = process_look (is_on_cycle net places p) (slice_get places p)
+
   -- the channel that a process reads, or the first that it writes, has its name
   abbrev pub names_channel : ℕ → Bool
-  names_channel p = option_map_or (has_name_of p) (in_of net p 0) false || option_map_or (has_name_of p) (out_of net p 0) false
+  names_channel p = has_name_if p (in_of net p 0) || has_name_if p (out_of net p 0)
 
   module _ (title : ℕ → List ℕ × ℕ) where
     -- a copy that has the name of a channel at its first ports, as fan-out makes them, is drawn as a point
     abbrev pub is_point : ℕ → Bool
     is_point p = is_copy (title (card_of net p).kind).0 && names_channel p
 
+    -- what stands in the box of process p below its name
+    abbrev pub box_title_at : List (List ℕ) → ℕ → List ℕ
+    box_title_at titles p = box_title title (card_of net p) (slice_index_or titles p [])
+
     -- process p, as a box: its name, its title or its kind, and its place, if known
     abbrev pub box_line : List (List ℕ) → List Place → ℕ → List ℕ
     box_line titles places p =
-        box_opening (process_name net p) ++ box_title title (card_of net p) (slice_index_or titles p []) ++ option_map_or place_label (slice_get places p) []
-        ++ closing (process_look (is_on_cycle net places p) (slice_get places p))
+        box_opening (process_name net p) ++ box_title_at titles p ++ place_part (slice_get places p)
+        ++ closing (look_at places p)
 
     abbrev pub node_line : List (List ℕ) → List Place → ℕ → List ℕ
-    node_line titles places p = if is_point p then point_line (process_name net p) (process_look (is_on_cycle net places p) (slice_get places p)) else box_line titles places p
+    node_line titles places p =
+        if is_point p then point_line (process_name net p) (look_at places p) else box_line titles places p
+
+    -- all processes, a line each
+    abbrev pub nodes : List (List ℕ) → List Place → List ℕ
+    nodes titles places = lines_upto (node_line titles places) (length net.processes)
 
   -- the numbers of the ports at its ends, from 0, if the process has several; none at a point that it leads from
   abbrev pub tail_part : Bool → ℕ → List ℕ
-  tail_part from_point c = let l = channel_of net c in port_part (codes "tail") l.out (if from_point then None else out_of net l.writer 1)
+  tail_part from_point c =
+      let l = channel_of net c in
+      port_part (codes "tail") l.out (if from_point then None else out_of net l.writer 1)
 
   abbrev pub head_part : ℕ → List ℕ
   head_part c = let l = channel_of net c in port_part (codes "head") l.input (in_of net l.reader 1)
@@ -184,19 +245,26 @@ module _ (net : Network) where
   -- channel c has the name of the point that it leads from or to
   abbrev pub has_name_of_point : (ℕ → List ℕ × ℕ) → ℕ → Bool
   has_name_of_point title c =
-      let l = channel_of net c in (is_point title l.writer && has_name_of l.writer c) || (is_point title l.reader && has_name_of l.reader c)
+      let l = channel_of net c in
+      (is_point title l.writer && has_name_of l.writer c) || (is_point title l.reader && has_name_of l.reader c)
 
   -- whether there are rows, whether channel c leads from a point, and to one, and whether it has a label
   abbrev pub form_of : (ℕ → List ℕ × ℕ) → Bool → ℕ → EdgeForm
   form_of title rows c =
       let l = channel_of net c in
-      record { has_rows = rows; from_point = is_point title l.writer; to_point = is_point title l.reader; has_label = not (has_name_of_point title c) }
+      record {
+        has_rows = rows;
+        from_point = is_point title l.writer;
+        to_point = is_point title l.reader;
+        has_label = not (has_name_of_point title c);
+      }
 
   -- the label of channel c: its name, and its sort, capacity and tokens if unusual
   abbrev pub edge_label : List ℕ → List (List Token) → ℕ → List ℕ
   edge_label capacities rests c =
       let l = channel_of net c in
-      channel_name net c ++ sort_part l.sort ++ capacity_part l.capacity (last_capacity capacities c l.capacity) ++ held_part (held_tokens rests c l.tokens)
+      channel_name net c ++ sort_part l.sort ++ last_capacity_part capacities c l.capacity
+      ++ held_part (held_tokens rests c l.tokens)
 
   -- none if it has the name of a point
   abbrev pub label_part : List ℕ → List (List Token) → Bool → ℕ → List ℕ
@@ -211,18 +279,28 @@ module _ (net : Network) where
       edge_look (is_jammed net places c) (has_grown capacities c) ++ tail_part form.from_point c ++ head_part c
       ++ link_part form.from_point form.to_point ++ row_part form.has_rows (stays (channel_of net c))
 
+  -- its line up to its label
+  abbrev pub arrow_of : Channel → List ℕ
+  arrow_of l = arrow (process_name net l.writer) (process_name net l.reader)
+
   abbrev pub formed_line : List Place → List ℕ → List (List Token) → EdgeForm → ℕ → List ℕ
   formed_line places capacities rests form c =
       let l = channel_of net c in
-      arrow (process_name net l.writer) (process_name net l.reader) ++ label_part capacities rests form.has_label c ++ codes "\""
+      arrow_of l ++ label_part capacities rests form.has_label c ++ codes "\""
       ++ edge_attributes places capacities form c ++ codes "];\n"
 
   -- channel c, as an edge from its writer to its reader
   abbrev pub edge_line : List Place → List ℕ → List (List Token) → (ℕ → List ℕ × ℕ) → Bool → ℕ → List ℕ
   edge_line places capacities rests title rows c = formed_line places capacities rests (form_of title rows c) c
 
+-- all channels, a line each
+abbrev pub edge_lines : Network → KindTitles → List Place → List ℕ → List (List Token) → List ℕ
+edge_lines net title places capacities rests =
+    lines_upto (edge_line net places capacities rests title (has_rows net)) (length net.channels)
+
 -- the picture of a network, whose processes may have titles, or of a run that ended like this
-abbrev pub picture : Direction → List (List ℕ) → (ℕ → List ℕ × ℕ) → Network → Option End → List Place → List ℕ → List (List Token) → List ℕ
-picture direction titles title net end places capacities rests =
-    head direction ++ caption net places end ++ lines_upto (node_line net title titles places) (length net.processes)
-    ++ lines_upto (edge_line net places capacities rests title (has_rows net)) (length net.channels) ++ codes "}\n"
+module _ (direction : Direction) (titles : List (List ℕ)) (title : KindTitles) (net : Network) (end : Option End) where
+  abbrev pub picture : List Place → List ℕ → List (List Token) → List ℕ
+  picture places capacities rests =
+      head direction ++ caption net places end ++ nodes net title titles places
+      ++ edge_lines net title places capacities rests ++ codes "}\n"

@@ -1,8 +1,8 @@
 //! Channels, as edges.
 ghost use Rattle.std.specs.Prelude.{◌≡◌, ◌++◌, None, OnOk, length, string_bytes, if◌then◌else◌};
 ghost use Rattle.kpn_model.specs.Network.{out_of};
-ghost use Rattle.kpn_model.specs.texts.Reports.{lines_upto};
-ghost use Rattle.kpn_picture.specs.Picture.{arrow, capacity_text, capacity_part, held_part, has_name_of_point, held_tokens, last_capacity, port_part, has_rows, edge_attributes, edge_line, form_of, label_part};
+ghost use Rattle.kpn_picture.specs.Left.{attributes_in, label_in, line_in, lines_left};
+ghost use Rattle.kpn_picture.specs.Picture.{arrow, capacity_text, capacity_part, held_part, has_name_of_point, held_tokens, last_capacity, port_part, has_rows, form_of};
 
 use crate::looks::{edge_look, link_part, row_part, sort_part};
 use crate::picture::Left;
@@ -133,7 +133,7 @@ impl<'a, K: Kinds> Model for Edge<'a, K> {
 impl<'a, K: Kinds> Edge<'a, K> {
     /// Appends the label of the channel, if it has one.
     fn push_label(&self, out: &mut String, has_label: bool) -> Result<(), AllocError>
-        ensures { OnOk result (string_bytes out.new ≡ string_bytes out.old ++ label_part self.now.net self.now.capacities self.now.rests has_label self.now.channel) }
+        ensures { OnOk result (string_bytes out.new ≡ string_bytes out.old ++ label_in self.now has_label) }
     {
         if !has_label {
             return Ok(());
@@ -149,7 +149,7 @@ impl<'a, K: Kinds> Edge<'a, K> {
 
     /// Appends what follows the label of the channel.
     fn push_attributes(&self, out: &mut String, form: EdgeForm) -> Result<(), AllocError>
-        ensures { OnOk result (string_bytes out.new ≡ string_bytes out.old ++ edge_attributes self.now.net self.now.places self.now.capacities form self.now.channel) }
+        ensures { OnOk result (string_bytes out.new ≡ string_bytes out.old ++ attributes_in self.now form) }
     {
         let c = self.channel;
         let ends = self.net.ends(c);
@@ -189,7 +189,7 @@ impl<'a, K: Titled> Edge<'a, K> {
 
     /// Appends the channel, as an edge from its writer to its reader.
     fn push(&self, out: &mut String, has_rows: bool) -> Result<(), AllocError>
-        ensures { OnOk result (string_bytes out.new ≡ string_bytes out.old ++ edge_line self.now.net self.now.places self.now.capacities self.now.rests K.title has_rows self.now.channel) }
+        ensures { OnOk result (string_bytes out.new ≡ string_bytes out.old ++ line_in self.now K.title has_rows) }
     {
         let ends = self.net.ends(self.channel);
         let form = self.form(has_rows);
@@ -209,7 +209,7 @@ pub(crate) fn push_channels<K: Titled>(
     net: &Net<K>,
     left: &Left<'_>,
 ) -> Result<(), AllocError>
-    ensures { OnOk result (string_bytes out.new ≡ string_bytes out.old ++ lines_upto (edge_line net.now left.now.places.now left.now.capacities.now left.now.rests.now K.title (has_rows net.now)) (length net.now.channels)) }
+    ensures { OnOk result (string_bytes out.new ≡ string_bytes out.old ++ lines_left net.now K.title left.now) }
 {
     let has_rows = has_rows(net);
     for c in 0..net.channels() {

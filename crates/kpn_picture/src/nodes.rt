@@ -1,9 +1,7 @@
 //! Processes, as boxes, or as points where channels branch.
-ghost use Rattle.std.specs.Prelude.{◌≡◌, ◌++◌, [], OnOk, IsSome, length, string_bytes};
-ghost use Rattle.std.specs.Option.{option_map_or};
-ghost use Rattle.kpn_model.specs.texts.Reports.{lines_upto};
+ghost use Rattle.std.specs.Prelude.{◌≡◌, ◌++◌, OnOk, IsSome, string_bytes};
 ghost use Rattle.kpn_picture.specs.Titles.{below};
-ghost use Rattle.kpn_picture.specs.Picture.{argument_part, box_opening, box_title, place_label, node_line};
+ghost use Rattle.kpn_picture.specs.Picture.{argument_part, box_opening, box_title, nodes, place_part};
 
 use crate::looks::{process_look, push_closing};
 use crate::points::{is_point, push_point};
@@ -62,7 +60,7 @@ fn push_place<K: Kinds>(
     net: &Net<K>,
     place: Option<Place>,
 ) -> Result<(), AllocError>
-    ensures { OnOk result (string_bytes out.new ≡ string_bytes out.old ++ option_map_or (place_label net.now) place []) }
+    ensures { OnOk result (string_bytes out.new ≡ string_bytes out.old ++ place_part net.now place) }
 {
     match place {
         Some(Place::Stopped) => out.push_str("\\nended"),
@@ -90,7 +88,7 @@ pub(crate) fn push_processes<K: Titled>(
     titles: &[Text],
     places: &[Place],
 ) -> Result<(), AllocError>
-    ensures { OnOk result (string_bytes out.new ≡ string_bytes out.old ++ lines_upto (node_line net.now K.title titles.now places.now) (length net.now.processes)) }
+    ensures { OnOk result (string_bytes out.new ≡ string_bytes out.old ++ nodes net.now K.title titles.now places.now) }
 {
     for p in 0..net.processes() {
         let name = process_name(net, p);

@@ -1,6 +1,7 @@
 //! The picture of a network.
 ghost use Rattle.std.specs.Prelude.{All, ◌≡◌, IfOk, string_bytes};
-ghost use Rattle.kpn_picture.specs.Picture.{IsPlain, head, picture, title_text};
+ghost use Rattle.kpn_picture.specs.Left.{styled_picture};
+ghost use Rattle.kpn_picture.specs.Picture.{IsPlain, head, title_text};
 
 use crate::caption::push_caption;
 use crate::edges::push_channels;
@@ -66,7 +67,7 @@ pub fn picture_of<K: Titled>(
     ensures processes { All (λ p. IsPlain p.name) net.now.processes }
     ensures channels { All (λ c. IsPlain c.name) net.now.channels }
     ensures titles { All (λ title. IsPlain (title_text title)) style.now.titles.now }
-    ensures text { IfOk result (λ text. string_bytes text ≡ picture style.now.direction style.now.titles.now K.title net.now end left.now.places.now left.now.capacities.now left.now.rests.now) }
+    ensures text { IfOk result (λ text. string_bytes text ≡ styled_picture style.now K.title net.now end left.now) }
 {
     net.assure_valid();
     titles_are_plain(style.titles);

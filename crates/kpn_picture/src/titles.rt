@@ -4,7 +4,7 @@ ghost use Rattle.kpn_formula.specs.Formulas.{kind_name};
 ghost use Rattle.kpn_standard.specs.Signatures.{named, signature};
 ghost use Rattle.kpn_standard.specs.Table.{row_of};
 ghost use Rattle.kpn_signals.specs.Signatures.{number_named, ports};
-ghost use Rattle.kpn_picture.specs.Titles.{standard_title, signals_title, formulas_title, both_title, below, name_of};
+ghost use Rattle.kpn_picture.specs.Titles.{standard_title, signals_title, formulas_title, both_title, name_of, TitleNamesKind, name_in, titled_kind};
 
 use kpn_compute::both::{is_first, own_card};
 use kpn_compute::{Both, Filtered, Filters};
@@ -40,7 +40,7 @@ impl Title {
 
     /// Appends the name. Errors: out of memory.
     pub fn push_name(&self, out: &mut String) -> Result<(), AllocError>
-        ensures { OnOk result (string_bytes out.new ≡ string_bytes out.old ++ name_of self.now.word.now self.now.number) }
+        ensures { OnOk result (string_bytes out.new ≡ string_bytes out.old ++ name_in self.now) }
     {
         let Title { word, number, .. } = *self;
         match number {
@@ -53,7 +53,7 @@ impl Title {
 /// A family with titles for its kinds.
 pub trait Titled: Kinds {
     ghost use Rattle.std.specs.Prelude.{◌≡◌, ℕ, List, IsSome};
-    ghost use Rattle.kpn_picture.specs.Titles.{MeansKind, below, name_of};
+    ghost use Rattle.kpn_picture.specs.Titles.{TitleMeansKind, name_of};
 
     ghost title: { ℕ → List ℕ × ℕ };
 
@@ -65,7 +65,7 @@ pub trait Titled: Kinds {
         requires { IsSome (Self.signature card.now) }
         ensures name { name_of result.word.now result.number ≡ (title card.now.kind).0 }
         ensures arity { result.arguments ≡ (title card.now.kind).1 }
-        ensures named { below card.now (title card.now.kind).1 ≡ 0 → MeansKind Self.signature (Self.named (title card.now.kind).0) (card.now.kind, (title card.now.kind).1) };
+        ensures named { TitleMeansKind Self.signature Self.named title card.now };
 }
 
 /// Filters with titles for their kinds, as in `Titled`.
@@ -100,7 +100,7 @@ impl Titled for Standard {
         requires { IsSome (signature card.now) }
         ensures name { name_of result.word.now result.number ≡ (standard_title card.now.kind).0 }
         ensures arity { result.arguments ≡ (standard_title card.now.kind).1 }
-        ensures named { named (standard_title card.now.kind).0 ≡ Some (card.now.kind, (standard_title card.now.kind).1) }
+        ensures named { named (standard_title card.now.kind).0 ≡ Some (titled_kind standard_title card.now) }
     {
         let Some(kind) = Kind::numbered(card.kind) else {
             unreachable!()
@@ -127,7 +127,7 @@ impl Titled for Signals {
         requires { IsSome (ports card.now) }
         ensures name { name_of result.word.now result.number ≡ (signals_title card.now.kind).0 }
         ensures arity { result.arguments ≡ (signals_title card.now.kind).1 }
-        ensures named { below card.now (signals_title card.now.kind).1 ≡ 0 → number_named (signals_title card.now.kind).0 ≡ Some (card.now.kind, (signals_title card.now.kind).1) }
+        ensures named { TitleNamesKind number_named signals_title card.now }
     {
         let Some(signal) = Signal::numbered(card.kind) else {
             unreachable!()

@@ -1,5 +1,5 @@
 -- The counts of a history.
-use Rattle.std.specs.Prelude.{◌≡◌, ℕ, ◌+◌, ◌^◌, ◌<◌, ◌≤◌, List, [], ◌∷◌, ◌++◌, length, get_or, set}
+use Rattle.std.specs.Prelude.{◌≡◌, ℕ, ◌+◌, ◌^◌, ◌<◌, ◌≤◌, List, [], ◌∷◌, ◌++◌, drop, length, get_or, set}
 use Rattle.kpn_model.specs.declared.token.Token.{Token}
 use Rattle.kpn_model.specs.declared.history.Deed.{Deed}
 use Rattle.kpn_model.specs.declared.history.Deed.TheVariants.{Took, Put, Stopped}
@@ -14,8 +14,12 @@ pub record IsCountOf (E : List Entry) (n : ℕ) : Type 0 where
   pub count : n ≡ length E
   pub few : length E < 2 ^ 63
 
+-- the last capacity of c, grown or not
+abbrev pub capacity_left : Network → List Entry → ℕ → ℕ
+capacity_left net E c = grown (channel_of net c).capacity (growths E) c
+
 abbrev pub counts_of : Network → List Entry → ℕ → ChannelCounts
-counts_of net E c = record { put = length (put_on E c); taken = length (taken E c); capacity = grown (channel_of net c).capacity (growths E) c }
+counts_of net E c = record { put = length (put_on E c); taken = length (taken E c); capacity = capacity_left net E c }
 
 abbrev pub no_counts : ChannelCounts
 no_counts = record { put = 0; taken = 0; capacity = 0 }
@@ -50,6 +54,20 @@ with_taken a = record a { taken = a.taken + 1 }
 abbrev pub with_capacity : ChannelCounts → ℕ → ChannelCounts
 with_capacity a n = record a { capacity = n }
 
+-- after one more token put on c, or taken from it, or after a growth of c
+abbrev pub one_more_put : List ChannelCounts → ℕ → List ChannelCounts
+one_more_put channel_counts c = set channel_counts c (with_put (counts_at channel_counts c))
+
+abbrev pub one_more_taken : List ChannelCounts → ℕ → List ChannelCounts
+one_more_taken channel_counts c = set channel_counts c (with_taken (counts_at channel_counts c))
+
+abbrev pub grown_at : List ChannelCounts → ℕ → ℕ → List ChannelCounts
+grown_at channel_counts c to = set channel_counts c (with_capacity (counts_at channel_counts c) to)
+
+-- the tokens left of stream c
+abbrev pub rest_at : List (List Token) → List ChannelCounts → ℕ → List Token
+rest_at streams channel_counts c = drop (counts_at channel_counts c).taken (get_or streams c [])
+
 -- unchanged if there is no such place
 abbrev pub one_more_at : List ℕ → ℕ → List ℕ
 one_more_at counts k = set counts k (get_or counts k 0 + 1)
@@ -60,13 +78,13 @@ steps_after steps (Did p d) = one_more_at steps p
 steps_after steps (Grew c to) = steps
 
 abbrev pub counts_after_deed : List ChannelCounts → Deed → List ChannelCounts
-counts_after_deed channel_counts (Took c t) = set channel_counts c (with_taken (counts_at channel_counts c))
-counts_after_deed channel_counts (Put c t) = set channel_counts c (with_put (counts_at channel_counts c))
+counts_after_deed channel_counts (Took c t) = one_more_taken channel_counts c
+counts_after_deed channel_counts (Put c t) = one_more_put channel_counts c
 counts_after_deed channel_counts Stopped = channel_counts
 
 abbrev pub counts_after : List ChannelCounts → Entry → List ChannelCounts
 counts_after channel_counts (Did p d) = counts_after_deed channel_counts d
-counts_after channel_counts (Grew c to) = set channel_counts c (with_capacity (counts_at channel_counts c) to)
+counts_after channel_counts (Grew c to) = grown_at channel_counts c to
 
 -- after one more deed or entry
 abbrev pub streams_after_deed : List (List Token) → Deed → List (List Token)

@@ -1,5 +1,5 @@
 -- The text of a report.
-use Rattle.std.specs.Prelude.{ℕ, ◌-◌, true, false, codes, decimal, List, [], ◌++◌, length, slice_index, slice_index_or, Option, Some, None}
+use Rattle.std.specs.Prelude.{◌≡◌, ℕ, ◌-◌, true, false, codes, decimal, List, [], ◌++◌, length, slice_index, slice_index_or, Option, Some, None, String, string_bytes}
 use Rattle.std.specs.List.{flat_map}
 use Rattle.kpn_model.specs.declared.token.Token.{Token}
 use Rattle.kpn_model.specs.declared.token.Token.TheVariants.{Word, Flag}
@@ -13,6 +13,14 @@ use Rattle.kpn_model.specs.texts.Names.{process_name, channel_name}
 use Rattle.kpn_model.specs.texts.Reports.{lines_upto}
 use Rattle.kpn_model.specs.Semantics.{State}
 use Rattle.kpn_model.specs.History.{Digest, digest}
+
+-- the new text is the old one and then this
+abbrev pub AppendsText : {Z : Type 0} → String Z → String Z → List ℕ → Type 0
+AppendsText old new text = string_bytes new ≡ string_bytes old ++ text
+
+-- the line with the number of entries
+abbrev pub entries_line : ℕ → List ℕ
+entries_line entries = codes "entries " ++ decimal entries ++ codes "\n"
 
 abbrev pub token_text : Token → List ℕ
 token_text (Word n) = decimal n
@@ -46,6 +54,10 @@ module _ (net : Network) where
       codes "process " ++ process_name net p ++ codes " " ++ place_text (slice_index_or places p Stopped)
       ++ codes " steps " ++ decimal (slice_index steps p) ++ codes "\n"
 
+  -- the line of each process
+  abbrev pub process_lines : List Place → List ℕ → List ℕ
+  process_lines places steps = lines_upto (process_line places steps) (length net.processes)
+
   abbrev pub channel_line : ℕ → ℕ → ℕ → ℕ → List ℕ
   channel_line put left capacity c =
       codes "channel " ++ channel_name net c ++ codes " put " ++ decimal put
@@ -71,7 +83,7 @@ module _ (net : Network) where
 
     abbrev pub digest_text : Option ℕ → List ℕ
     digest_text show =
-        lines_upto (process_line d.places d.steps) (length net.processes) ++ lines_upto digest_line (length net.channels)
+        process_lines d.places d.steps ++ lines_upto digest_line (length net.channels)
         ++ flat_map growth_line d.growths ++ codes "entries " ++ decimal d.entries ++ codes "\n" ++ shown_line show
 
 -- only the first line if the budget was spent or the run was out of memory

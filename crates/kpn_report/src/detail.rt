@@ -1,12 +1,8 @@
 //! The detail of a report.
-ghost use Rattle.std.specs.Prelude.{◌≡◌, [], true, drop, get_or, length, map, IfOk};
-ghost use Rattle.kpn_model.specs.declared.history.End.{End as EndV};
-ghost use Rattle.kpn_model.specs.Network.{Family};
-ghost use Rattle.kpn_model.specs.Semantics.{State, wants};
-ghost use Rattle.kpn_model.specs.History.{each_process, place_of, digest};
-ghost use Rattle.kpn_report.specs.Reported.{digest_with, IsReport};
+ghost use Rattle.std.specs.Prelude.{◌≡◌, [], drop, length, map, IfOk};
+ghost use Rattle.kpn_report.specs.Reported.{IsDetailOf, TellsReport};
 ghost use Rattle.kpn_model.specs.texts.Reports.{has_report};
-ghost use Rattle.kpn_report.specs.Tally.{Tabulates, counts_at};
+ghost use Rattle.kpn_report.specs.Tally.{Tabulates, rest_at};
 
 use crate::channel_counts::ChannelCounts;
 use crate::entries::Slice;
@@ -55,7 +51,7 @@ fn rests(
     channel_counts: &[ChannelCounts],
 ) -> Result<Vec<Stream>, AllocError>
     requires { length channel_counts.now ≡ length streams.now }
-    ensures { IfOk result (λ v. Tabulates [] (length streams.now) (λ c. drop (counts_at channel_counts.now c).taken (get_or streams.now c [])) v.items) }
+    ensures { IfOk result (λ v. Tabulates [] (length streams.now) (rest_at streams.now channel_counts.now) v.items) }
 {
     let mut rests = Vec::with_capacity(alloc, streams.len())?;
     for c in 0..streams.len() {
@@ -80,7 +76,7 @@ pub fn detail_of<K: Kinds>(
     history: &[Entry],
     places: Vec<Place>,
 ) -> Result<Detail, AllocError>
-    ensures { IfOk result (λ d. (kinds : Family) (M : State) (cause : EndV) → places.items ≡ each_process net.now (λ p. place_of net.now p (wants kinds net.now M p)) → digest_with cause d ≡ digest kinds net.now cause history.now M) }
+    ensures { IfOk result (IsDetailOf net.now history.now places.items) }
 {
     let slice = Slice { history };
     let tally = tally_of(alloc, net, &slice)?;
@@ -115,7 +111,7 @@ pub fn report_of<K: Kinds>(
     end: End,
 ) -> Result<Report, AllocError>
     ensures end { IfOk result (λ r. r.end ≡ end) }
-    ensures detail { IfOk result (λ r. (kinds : Family) (M : State) → (has_report end ≡ true → places.items ≡ each_process net.now (λ p. place_of net.now p (wants kinds net.now M p))) → IsReport kinds net.now end history.now M r.detail) }
+    ensures detail { IfOk result (λ r. TellsReport net.now end history.now places.items r.detail) }
 {
     if has_report(end) {
         let detail = Some(detail_of(alloc, net, history, places)?);

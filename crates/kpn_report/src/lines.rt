@@ -1,8 +1,7 @@
 //! The lines of a report.
-ghost use Rattle.std.specs.Prelude.{◌≡◌, ◌++◌, OnOk, IfOk, length, string_bytes};
+ghost use Rattle.std.specs.Prelude.{◌≡◌, ◌++◌, OnOk, IfOk, string_bytes};
 ghost use Rattle.std.specs.List.{flat_map};
-ghost use Rattle.kpn_model.specs.texts.Reports.{lines_upto};
-ghost use Rattle.kpn_report.specs.Text.{process_line, channel_line, growth_line, token_part, end_text, end_line, stream_line};
+ghost use Rattle.kpn_report.specs.Text.{process_line, channel_line, growth_line, token_part, end_text, end_line, stream_line, AppendsText, process_lines};
 
 use crate::channel_counts::ChannelCounts;
 use kpn_model::{End, Kinds, Place, Token};
@@ -43,7 +42,7 @@ pub(crate) fn push_processes<K: Kinds>(
     places: &[Place],
     steps: &[u64],
 ) -> Result<(), AllocError>
-    ensures { OnOk result (string_bytes out.new ≡ string_bytes out.old ++ lines_upto (process_line net.now places.now steps.now) (length net.now.processes)) }
+    ensures { OnOk result (AppendsText out.old out.new (process_lines net.now places.now steps.now)) }
 {
     for p in 0..net.processes() {
         push_process(out, net, places, steps, p)?;
@@ -59,7 +58,7 @@ pub(crate) fn push_channel<K: Kinds>(
     left: usize,
     c: usize,
 ) -> Result<(), AllocError>
-    ensures { OnOk result (string_bytes out.new ≡ string_bytes out.old ++ channel_line net.now counts.put left counts.capacity c) }
+    ensures { OnOk result (AppendsText out.old out.new (channel_line net.now counts.put left counts.capacity c)) }
 {
     let name = channel_name(net, c);
     let (put, capacity) = (counts.put, counts.capacity);

@@ -1,7 +1,7 @@
 //! Where a run left the processes.
 ghost use Rattle.std.specs.Prelude.{◌≡◌, IfOk};
-ghost use Rattle.kpn_model.specs.History.{each_process, place_of};
-ghost use Rattle.kpn_state.specs.Standings.{standing, parked_answer};
+ghost use Rattle.kpn_model.specs.History.{place_of};
+ghost use Rattle.kpn_report.specs.Reported.{parked_places};
 
 use kpn_model::{Act, Answer, Kinds, Place};
 use kpn_network::Net;
@@ -37,7 +37,7 @@ pub fn places_of<K: Kinds>(
     net: &Net<K>,
     standings: &[Standing],
 ) -> Result<Vec<Place>, AllocError>
-    ensures { IfOk result (λ v. v.items ≡ each_process net.now (λ p. place_of net.now p (parked_answer (standing standings.now p)))) }
+    ensures { IfOk result (λ v. v.items ≡ parked_places net.now standings.now) }
 {
     let mut places = Vec::with_capacity(alloc, net.processes())?;
     for process in 0..net.processes() {

@@ -1,7 +1,7 @@
 //! Counts a history, entry by entry.
-ghost use Rattle.std.specs.Prelude.{◌≡◌, ◌<◌, ◌+◌, ◌^◌, ◌++◌, ◌∷◌, [], ℕ, set, get_or, IfOk, OnOk};
+ghost use Rattle.std.specs.Prelude.{◌≡◌, ◌<◌, ◌+◌, ◌^◌, ◌++◌, ◌∷◌, [], ℕ, get_or, IfOk, OnOk};
 ghost use Rattle.kpn_model.specs.History.{growths as growths_of};
-ghost use Rattle.kpn_report.specs.Tally.{CountsSteps, KeepsCounts, one_more_at, with_put, with_taken, with_capacity, counts_at, steps_after, counts_after};
+ghost use Rattle.kpn_report.specs.Tally.{CountsSteps, KeepsCounts, one_more_at, counts_at, steps_after, counts_after, one_more_put, one_more_taken, grown_at};
 
 use crate::channel_counts::ChannelCounts;
 use crate::counted::counted_tally;
@@ -31,7 +31,7 @@ pub(crate) fn count_at(counts: &mut Vec<u64>, place: usize)
 
 fn count_put(channel_counts: &mut Vec<ChannelCounts>, channel: usize)
     requires { (counts_at channel_counts.old.items channel).put + 1 < 2 ^ 64 }
-    ensures { channel_counts.new.items ≡ set channel_counts.old.items channel (with_put (counts_at channel_counts.old.items channel)) }
+    ensures { channel_counts.new.items ≡ one_more_put channel_counts.old.items channel }
 {
     if channel < channel_counts.len() {
         let counts = &mut channel_counts[channel];
@@ -41,7 +41,7 @@ fn count_put(channel_counts: &mut Vec<ChannelCounts>, channel: usize)
 
 fn count_taken(channel_counts: &mut Vec<ChannelCounts>, channel: usize)
     requires { (counts_at channel_counts.old.items channel).taken + 1 < 2 ^ 64 }
-    ensures { channel_counts.new.items ≡ set channel_counts.old.items channel (with_taken (counts_at channel_counts.old.items channel)) }
+    ensures { channel_counts.new.items ≡ one_more_taken channel_counts.old.items channel }
 {
     if channel < channel_counts.len() {
         let counts = &mut channel_counts[channel];
@@ -50,7 +50,7 @@ fn count_taken(channel_counts: &mut Vec<ChannelCounts>, channel: usize)
 }
 
 fn note_capacity(channel_counts: &mut Vec<ChannelCounts>, channel: usize, to: usize)
-    ensures { channel_counts.new.items ≡ set channel_counts.old.items channel (with_capacity (counts_at channel_counts.old.items channel) to) }
+    ensures { channel_counts.new.items ≡ grown_at channel_counts.old.items channel to }
 {
     if channel < channel_counts.len() {
         let counts = &mut channel_counts[channel];

@@ -1,12 +1,9 @@
 //! The text of a report.
-ghost use Rattle.std.specs.Prelude.{◌≡◌, ◌++◌, ◌<◌, ◌^◌, ℕ, true, OnOk, IfOk, codes, decimal, length, string_bytes};
-ghost use Rattle.kpn_model.specs.Network.{Family};
-ghost use Rattle.kpn_model.specs.Semantics.{State, wants};
-ghost use Rattle.kpn_model.specs.History.{each_process, place_of};
+ghost use Rattle.std.specs.Prelude.{◌≡◌, ◌<◌, ◌^◌, ℕ, OnOk, IfOk, length};
 ghost use Rattle.kpn_report.specs.Tally.{counts_at};
-ghost use Rattle.kpn_report.specs.Counted.{counted_line, counted_text, shown_of};
-ghost use Rattle.kpn_model.specs.texts.Reports.{lines_upto, has_report};
-ghost use Rattle.kpn_report.specs.Text.{report_text};
+ghost use Rattle.kpn_report.specs.Counted.{shown_of, counted_lines, tally_text};
+ghost use Rattle.kpn_report.specs.Text.{AppendsText, entries_line};
+ghost use Rattle.kpn_report.specs.Reported.{IsReportTextOf};
 
 use crate::channel_counts::ChannelCounts;
 use crate::detail::has_report;
@@ -27,7 +24,7 @@ fn push_channels<K: Kinds>(
 ) -> Result<(), AllocError>
     requires few { (c : ℕ) → (counts_at channel_counts.now c).put < 2 ^ 63 }
     requires all { length channel_counts.now ≡ length net.now.channels }
-    ensures { OnOk result (string_bytes out.new ≡ string_bytes out.old ++ lines_upto (counted_line net.now channel_counts.now) (length net.now.channels)) }
+    ensures { OnOk result (AppendsText out.old out.new (counted_lines net.now channel_counts.now)) }
 {
     for c in 0..net.channels() {
         let counts = channel_counts[c];
@@ -45,7 +42,7 @@ fn push_shown<K: Kinds, E: Entries>(
     history: &E,
     show: Option<usize>,
 ) -> Result<(), AllocError>
-    ensures { OnOk result (string_bytes out.new ≡ string_bytes out.old ++ shown_of net.now (E.entries history.now) show) }
+    ensures { OnOk result (AppendsText out.old out.new (shown_of net.now (E.entries history.now) show)) }
 {
     match show {
         Some(c) => {
@@ -58,7 +55,7 @@ fn push_shown<K: Kinds, E: Entries>(
 
 /// Appends the line with the number of entries.
 fn push_entries(out: &mut String, entries: usize) -> Result<(), AllocError>
-    ensures { OnOk result (string_bytes out.new ≡ string_bytes out.old ++ (codes "entries " ++ decimal entries ++ codes "\n")) }
+    ensures { OnOk result (AppendsText out.old out.new (entries_line entries)) }
 {
     write!(out, "entries {entries}\n")
 }
@@ -73,7 +70,7 @@ fn push_tally<K: Kinds>(
 ) -> Result<(), AllocError>
     requires few { (c : ℕ) → (counts_at tally.now.channel_counts.items c).put < 2 ^ 63 }
     requires all { length tally.now.channel_counts.items ≡ length net.now.channels }
-    ensures { OnOk result (string_bytes out.new ≡ string_bytes out.old ++ counted_text net.now places.now tally.now.steps.items tally.now.channel_counts.items tally.now.growths.items entries) }
+    ensures { OnOk result (AppendsText out.old out.new (tally_text net.now places.now tally.now entries)) }
 {
     push_processes(out, net, places, tally.steps.as_slice())?;
     push_channels(out, net, tally.channel_counts.as_slice())?;
@@ -97,7 +94,7 @@ pub fn text_of<K: Kinds>(
     end: End,
     show: Option<usize>,
 ) -> Result<String, AllocError>
-    ensures { IfOk result (λ t. (kinds : Family) (M : State) → (has_report end ≡ true → places.now ≡ each_process net.now (λ p. place_of net.now p (wants kinds net.now M p))) → string_bytes t ≡ report_text kinds net.now end history.now M show) }
+    ensures { IfOk result (IsReportTextOf net.now end history.now places.now show) }
 {
     text_of_entries(alloc, net, &Slice { history }, places, end, show)
 }
@@ -112,7 +109,7 @@ pub fn text_of_entries<K: Kinds, E: Entries>(
     end: End,
     show: Option<usize>,
 ) -> Result<String, AllocError>
-    ensures { IfOk result (λ t. (kinds : Family) (M : State) → (has_report end ≡ true → places.now ≡ each_process net.now (λ p. place_of net.now p (wants kinds net.now M p))) → string_bytes t ≡ report_text kinds net.now end (E.entries history.now) M show) }
+    ensures { IfOk result (IsReportTextOf net.now end (E.entries history.now) places.now show) }
 {
     let mut out = end_line(alloc, end)?;
     if !has_report(end) {

@@ -14,7 +14,7 @@ use Rattle.kpn_model.specs.Lawful.{port_at}
 use Rattle.kpn_standard.specs.Locals.{at, one, two, stays, LastFits}
 use Rattle.kpn_compute.specs.Filters.{AreKept}
 use Rattle.kpn_rounds.specs.declared.turns.TheConstants.{NONE_HELD, ONE_READ, TWO_READ, ONE_LEFT, TWO_LEFT}
-use Rattle.kpn_rounds.specs.Steps.{count}
+use Rattle.kpn_rounds.specs.Steps.{count, RoundStep}
 
 -- a word, or 1 or 0 for a flag
 abbrev pub number_of : Token → ℕ
@@ -84,7 +84,9 @@ module _ (s : Signature) where
   -- writes the first of the outputs that are left; with none it begins the next round
   abbrev pub write_answer : List ℕ → List ℕ → Answer
   write_answer kept [] = record { next = with_outputs kept []; act = if nat_lt 0 (count s.ins) then Read 0 else Stop }
-  write_answer kept (w ∷ ws) = let k = count s.outs - length (w ∷ ws) in record { next = with_outputs kept ws; act = Write k (token_at s.outs k w) }
+  write_answer kept (w ∷ ws) =
+      let k = count s.outs - length (w ∷ ws) in
+      record { next = with_outputs kept ws; act = Write k (token_at s.outs k w) }
 
   -- reads the next input
   abbrev pub reading : List ℕ → List ℕ → Answer
@@ -93,7 +95,9 @@ module _ (s : Signature) where
   module _ (step : List ℕ → List ℕ → List ℕ × List ℕ) where
     -- what is kept after a step, and the outputs
     abbrev pub made_by : List ℕ → List ℕ → List ℕ × List ℕ
-    made_by kept inputs = let made = step (carried kept) (three_of inputs) in (made.0, take (count s.outs) (three_of made.1))
+    made_by kept inputs =
+        let made = step (carried kept) (three_of inputs) in
+        (made.0, take (count s.outs) (three_of made.1))
 
     -- reads the next input; after the last it steps
     abbrev pub read_answer : List ℕ → List ℕ → Answer
@@ -117,7 +121,7 @@ module _ (s : Signature) where
     pub left : length (left_in local) ≤ count s.outs
 
 -- a card without ports stops
-abbrev pub rounds_family : (Card → Option Signature) → (Card → List ℕ) → (Card → List ℕ → List ℕ → List ℕ × List ℕ) → Family
+abbrev pub rounds_family : (Card → Option Signature) → (Card → List ℕ) → (Card → RoundStep) → Family
 rounds_family ports start step =
     record {
       start = λ card. option_map_or (λ s. with_inputs s (start card) []) (ports card) (start card);

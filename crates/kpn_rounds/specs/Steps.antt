@@ -20,6 +20,10 @@ abbrev pub AreMade : List ℕ → Type 0
 AreMade (a ∷ b ∷ c ∷ []) = IsWord a × IsWord b × IsWord c
 AreMade made = ⊥
 
+-- what is kept and what is written, of what was kept and what was read
+abbrev pub RoundStep : Type 0
+RoundStep = List ℕ → List ℕ → List ℕ × List ℕ
+
 -- of what is kept and of three words a step makes four words to be kept, and three
 abbrev pub MakesWords : (List ℕ → List ℕ → List ℕ × List ℕ) → List ℕ → Type 0
 MakesWords step kept =
@@ -27,6 +31,6 @@ MakesWords step kept =
     → IsWord x → IsWord y → IsWord z → AreKept (step kept (x ∷ y ∷ z ∷ [])).0 × AreMade (step kept (x ∷ y ∷ z ∷ [])).1
 
 -- four words are kept at the start, and each step makes words
-pub record StepWords (ports : Card → Option Signature) (start : Card → List ℕ) (step : Card → List ℕ → List ℕ → List ℕ × List ℕ) : Type 0 where
+pub record StepWords (ports : Card → Option Signature) (start : Card → List ℕ) (step : Card → RoundStep) : Type 0 where
   pub at_start : OfEachCard (λ card. IsSome (ports card) → AreKept (start card))
   pub after_step : OfEachCard (λ card. IsSome (ports card) → OfAllKept (MakesWords (step card)))

@@ -1,5 +1,5 @@
 -- What is handed back of a run that failed.
-use Rattle.std.proofs.Common.{◌≡◌, ◌∙◌, ℕ, List, map, ap, refl, sym, subst}
+use Rattle.std.proofs.Common.{◌≡◌, ◌∙◌, List, map, ap, sym, subst}
 use Rattle.kpn_model.specs.declared.kinds.Card.{Card}
 use Rattle.kpn_model.specs.Network.{Network}
 use Rattle.kpn_machine.specs.declared.machine.OpenRefused.{OpenRefused}

@@ -1,9 +1,9 @@
 //! Why a run failed.
-ghost use Rattle.std.specs.Prelude.{◌≡◌, ℕ, List};
+ghost use Rattle.std.specs.Prelude.{◌≡◌};
 ghost use Rattle.kpn_model.specs.Network.{Network as NetV};
 ghost use Rattle.kpn_machine.specs.declared.opening.OpenFault.{OpenFault as OpenFaultV};
 ghost use Rattle.kpn_body.specs.Input.{Input};
-ghost use Rattle.kpn_run.specs.Refusals.{FailsRun, HandsBack};
+ghost use Rattle.kpn_run.specs.Refusals.{IsFaultOfFailure};
 
 use kpn_body::{Answered, Body, Finished};
 use kpn_machine::{OpenFault, OpenRefused};
@@ -64,7 +64,7 @@ pub enum Failure<B: Body> {
 
 /// The fault of a run that failed so.
 pub fn fault_of<B: Body>(failure: Failure<B>) -> RunFault<B>
-    ensures { (net : NetV) (bodies : List _) (workers : ℕ) → HandsBack B.card net bodies failure → FailsRun B.card net bodies workers result }
+    ensures { IsFaultOfFailure B.card failure result }
 {
     match failure {
         Failure::NotRun(OpenRefused { net, bodies, fault }) => match fault {

@@ -2,7 +2,7 @@
 ghost use Rattle.std.specs.Prelude.{◌≡◌, Some, IsNone, MatchOption};
 ghost use Rattle.kpn_model.specs.Families.{family};
 ghost use Rattle.kpn_machine.specs.MachineView.{IsFaithful};
-ghost use Rattle.kpn_run.specs.Runs.{IsFinish};
+ghost use Rattle.kpn_run.specs.Runs.{IsFinish, IsFinishOf};
 
 use kpn_model::{End, Kinds};
 use kpn_monitor::{BookedRun, Closed, EntryLedger};
@@ -47,7 +47,7 @@ impl<K: Kinds, H: Keeper> Deref for Finish<K, H> {
 
 impl<K: Kinds, H: Keeper> Finish<K, H> {
     pub(crate) fn of<E: EntryLedger>(closed: Closed<K, E, H>) -> Option<Finish<K, H>>
-        ensures { MatchOption result (IsNone closed.machine.end) (λ f. (f.machine ≡ closed.machine) × (f.receipts ≡ closed.receipts) × (closed.machine.end ≡ Some f.cause)) }
+        ensures { MatchOption result (IsNone closed.machine.end) (IsFinishOf closed) }
     {
         let end = closed.end()?;
         Some(Finish {

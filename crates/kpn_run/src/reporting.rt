@@ -1,8 +1,7 @@
 //! The report of a run that has ended.
 ghost use Rattle.std.specs.Prelude.{◌≡◌, Some, IfOk};
 ghost use Rattle.kpn_model.specs.Families.{family};
-ghost use Rattle.kpn_report.specs.Reported.{IsReport};
-ghost use Rattle.kpn_run.specs.Reports.{IsEveryRuns, IsOutcome, IsReportOf, TellsLeastSolution};
+ghost use Rattle.kpn_run.specs.Reports.{IsReportOf, TellsOwn, TellsEvery, TellsAnyCapacities, TellsLeast};
 
 use crate::finish::Finish;
 use kpn_laws::{determinacy_of, least_solution_of};
@@ -25,10 +24,10 @@ use std::alloc::{AllocError, Global};
 /// ```
 pub fn report<K: Kinds>(alloc: Global, finish: &Finish<K>) -> Result<Report, AllocError>
     ensures end { IfOk result (λ r. r.end ≡ finish.now.cause) }
-    ensures own { IfOk result (λ r. IsReport (family K.Kinds) finish.now.machine.network finish.now.cause finish.now.machine.history finish.now.machine.state r.detail) }
-    ensures every { IfOk result (λ r. IsEveryRuns (family K.Kinds) finish.now.machine.network finish.now.cause r.detail) }
-    ensures any_capacities { IfOk result (λ r. IsOutcome (family K.Kinds) finish.now.machine.network finish.now.cause finish.now.machine.history r.detail) }
-    ensures streams { IfOk result (λ r. TellsLeastSolution (family K.Kinds) finish.now.machine.network finish.now.cause r.detail) }
+    ensures own { IfOk result (λ r. TellsOwn (family K.Kinds) finish.now r.detail) }
+    ensures every { IfOk result (λ r. TellsEvery (family K.Kinds) finish.now r.detail) }
+    ensures any_capacities { IfOk result (λ r. TellsAnyCapacities (family K.Kinds) finish.now r.detail) }
+    ensures streams { IfOk result (λ r. TellsLeast (family K.Kinds) finish.now r.detail) }
 {
     report_at(alloc, finish.chronicle(), finish.end())
 }

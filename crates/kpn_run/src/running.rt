@@ -1,14 +1,12 @@
 //! Runs a network with several workers.
-ghost use Rattle.std.specs.Prelude.{◌≡◌, ◌<◌, ◌≤◌, ◌⊎◌, ℕ, List, [], length, map, vec_capacity, Err, IfErr, IfOk, IsSome, OnOk};
-ghost use Rattle.kpn_model.specs.Network.{Network as NetV};
+ghost use Rattle.std.specs.Prelude.{◌≡◌, ◌<◌, ◌⊎◌, [], map, vec_capacity, Err, IfErr, IfOk, IsSome, OnOk};
 ghost use Rattle.kpn_model.specs.Families.{family};
 ghost use Rattle.kpn_machine.specs.Opening.{cards_of};
 ghost use Rattle.kpn_monitor.specs.Views.{AreNamesOf};
 ghost use Rattle.kpn_monitor.specs.Kept.{IsClosed};
 ghost use Rattle.kpn_laws.specs.RoomOfRun.{TakesLeastRoom};
-ghost use Rattle.kpn_laws.specs.StreamsOfRun.{ApproachLeastSolution};
-ghost use Rattle.kpn_run.specs.Runs.{IsFinish, IsFinishedRun, IsComparable, SparesBudget, StaysWithinCapacities};
-ghost use Rattle.kpn_run.specs.Refusals.{FailsOpened, FailsRun, HandsBack, Runs, RunsBodies};
+ghost use Rattle.kpn_run.specs.Runs.{IsFinish, IsComparable, SparesBudget, StaysWithinCapacities, ApproachesSolution};
+ghost use Rattle.kpn_run.specs.Refusals.{FailsOpened, FailsRun, Runs, IsFaultOfFailure, RefusedFit, FinishesBodies};
 
 use crate::boxed::{BoxedBody, Boxes, box_all, unbox_all};
 use crate::fault::{Failure, RunFault, fault_of};
@@ -67,7 +65,7 @@ pub fn run<B: Body, R: Wait + Clock + Threads + Sync, G: Gate>(
     ensures budget { IfOk result (λ f. SparesBudget (family B.Kinds.Kinds) net f.cause) }
     ensures comparable { IfOk result (λ f. IsComparable (family B.Kinds.Kinds) net f.machine.history) }
     ensures room { IfOk result (λ f. TakesLeastRoom (family B.Kinds.Kinds) net f.machine.history f.machine.state) }
-    ensures streams { IfOk result (λ f. ApproachLeastSolution (family B.Kinds.Kinds) net f.machine.history f.machine.state) }
+    ensures streams { IfOk result (λ f. ApproachesSolution (family B.Kinds.Kinds) net f.machine) }
     ensures cards { OnOk result (map B.card bodies.items ≡ cards_of net.processes) }
     ensures many { (workers ≡ 0) ⊎ (16 < workers) → result ≡ Err (RunFault.Workers net bodies) }
     ensures failed { IfErr result (FailsRun B.card net bodies.items workers) }
@@ -123,8 +121,8 @@ pub fn run_with_keeper<B: Body, H: Keeper + Send, R: Wait + Clock + Threads + Sy
 
 fn unboxed<B: Body>(failure: Failure<BoxedBody<B>>, spare: Vec<B>) -> RunFault<B>
     requires spare { spare.items ≡ [] }
-    requires room { (refused : _) → failure ≡ Failure.NotRun refused → length refused.bodies.items ≤ vec_capacity spare }
-    ensures { (net : NetV) (bodies : List _) (workers : ℕ) → HandsBack B.card net bodies failure → FailsRun B.card net bodies workers result }
+    requires room { RefusedFit failure (vec_capacity spare) }
+    ensures { IsFaultOfFailure B.card failure result }
 {
     match failure {
         Failure::NotRun(OpenRefused { net, bodies, fault }) => {
@@ -147,7 +145,7 @@ fn run_bodies<B: Body, H: Keeper + Send, R: Wait + Clock + Threads + Sync, G: Ga
     request: RunRequest<B>,
     gate: &G,
 ) -> Result<Finish<B::Kinds, H>, Failure<B>>
-    ensures { RunsBodies (IsFinishedRun (family B.Kinds.Kinds) request.net) B.card request.net request.bodies.items result }
+    ensures { FinishesBodies (family B.Kinds.Kinds) B.card request.net request.bodies.items result }
 {
     let RunRequest {
         net,

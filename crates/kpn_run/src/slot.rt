@@ -1,8 +1,8 @@
 //! The seats of a run's workers.
-ghost use Rattle.std.specs.Prelude.{◌≡◌, ◌+◌, ◌<◌, ◌≤◌, ℕ, false, [], length, vec_capacity, is_some, slice_index_or, IfNone};
-ghost use Rattle.std.specs.List.{All, sum_by};
-ghost use Rattle.kpn_monitor.specs.Views.{Shares};
-ghost use Rattle.kpn_run.specs.Runs.{AtSlot, HasMet};
+ghost use Rattle.std.specs.Prelude.{◌≡◌, ◌+◌, ◌<◌, ◌≤◌, false, [], length, vec_capacity, is_some, IfNone};
+ghost use Rattle.std.specs.List.{All};
+ghost use Rattle.kpn_monitor.specs.Views.{Shares, all_parts};
+ghost use Rattle.kpn_run.specs.Runs.{AtSlot, HasMet, slot_parts, KeepParts, HaveMet};
 
 use crate::gate::Gate;
 use crate::starting::MOST_WORKERS;
@@ -126,7 +126,7 @@ pub(crate) fn seat_all<B: Body, E: EntryLedger, O: Ledger>(
 )
     requires workers { 0 < workers }
     requires room { (slots.old.items ≡ []) × (workers ≤ vec_capacity slots.old) }
-    ensures parts { sum_by (λ (b : AtSlot). b.seat.parts) slots.new.items ≡ seat.parts }
+    ensures parts { slot_parts slots.new.items ≡ seat.parts }
     ensures some { (0 < length slots.new.items) × (length slots.new.items ≤ workers) }
 {
     let mut seat = seat;
@@ -144,7 +144,7 @@ fn seat_one<B: Body, E: EntryLedger, O: Ledger>(
     slots: &mut Vec<WorkerSlot<B, E, O>>,
 )
     requires room { length slots.old.items < vec_capacity slots.old }
-    ensures parts { sum_by (λ (b : AtSlot). b.seat.parts) slots.new.items + seat.new.parts ≡ sum_by (λ (b : AtSlot). b.seat.parts) slots.old.items + seat.old.parts }
+    ensures parts { slot_parts slots.new.items + seat.new.parts ≡ slot_parts slots.old.items + seat.old.parts }
     ensures len { length slots.new.items ≤ length slots.old.items + 1 }
     ensures room { vec_capacity slots.new ≡ vec_capacity slots.old }
 {
@@ -170,7 +170,7 @@ pub(crate) fn work_all<
     orders: &Orders<G, S>,
     slots: &mut Vec<WorkerSlot<B, E, O>>,
 )
-    ensures parts { sum_by (λ (b : AtSlot). b.seat.parts) slots.new.items ≡ sum_by (λ (b : AtSlot). b.seat.parts) slots.old.items }
+    ensures parts { slot_parts slots.new.items ≡ slot_parts slots.old.items }
     ensures met { S.may_stop ≡ false → All HasMet slots.new.items }
     ensures len { length slots.new.items ≡ length slots.old.items }
 {
@@ -187,8 +187,8 @@ fn work_each<
     G: Gate,
     S: StopSignal,
 >(rt: &R, monitor: &Monitor<B, E, O, H>, orders: &Orders<G, S>, slots: &mut [WorkerSlot<B, E, O>])
-    ensures parts { (k : ℕ) (d : AtSlot) → k < length slots.old → (slice_index_or slots.new k d).seat.parts ≡ (slice_index_or slots.old k d).seat.parts }
-    ensures met { S.may_stop ≡ false → (k : ℕ) (d : AtSlot) → k < length slots.old → HasMet (slice_index_or slots.new k d) }
+    ensures parts { KeepParts slots.old slots.new }
+    ensures met { S.may_stop ≡ false → HaveMet (length slots.old) slots.new }
 {
     thread::for_each_mut(
         rt,
@@ -204,7 +204,7 @@ pub(crate) fn leave_all<B: Body, E: EntryLedger, O: Ledger>(
 ) -> Option<Finished<B>>
     requires room { length slots.items ≤ vec_capacity seats.old }
     requires empty { seats.old.items ≡ [] }
-    ensures parts { sum_by (λ (s : Shares). s.parts) seats.new.items ≡ sum_by (λ (b : AtSlot). b.seat.parts) slots.items }
+    ensures parts { all_parts seats.new.items ≡ slot_parts slots.items }
     ensures met { All HasMet slots.items → IfNone result (All (λ (s : Shares). s.overs ≡ 1) seats.new.items) }
     ensures len { length seats.new.items ≡ length slots.items }
 {

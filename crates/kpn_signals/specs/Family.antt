@@ -18,6 +18,10 @@ use Rattle.kpn_signals.specs.Noise.{noise_answer}
 use Rattle.kpn_signals.specs.Filters.{hold_join, delay_step, low_pass_step, clip_step, sum_step, difference_step, average_step, counter_step}
 use Rattle.kpn_signals.specs.Table.{numbered}
 
+-- the step of `clip, signed`
+abbrev pub signed_clip_step : List ℕ → List ℕ → Token → List ℕ × Token
+signed_clip_step args = clip_step (word_below (at args 0)) (bound (at args 1) (at args 2))
+
 abbrev pub answer_of : Signal → List ℕ → List ℕ → Option Token → Answer
 answer_of Input args l last = input_answer l
 answer_of InputFlags args l last = input_answer l
@@ -42,7 +46,7 @@ answer_of LowPass args l last = step_answer (low_pass_step (at args 0)) l last
 answer_of Clip args l last = step_answer (clip_step (at args 0) (at args 1)) l last
 answer_of SignedConstant args l last = constant_answer (word_below (at args 0)) l
 answer_of SignedHold args l last = join_answer hold_join l last
-answer_of SignedClip args l last = step_answer (clip_step (word_below (at args 0)) (bound (at args 1) (at args 2))) l last
+answer_of SignedClip args l last = step_answer (signed_clip_step args) l last
 answer_of SignedScale args l last = step_answer (scale_step (word_below (at args 0))) l last
 answer_of SignedPrefix args l last = prefix_answer (word_below (at args 0)) l last
 answer_of CopyFlags args l last = copy_flags_answer l last
@@ -70,10 +74,14 @@ start_of SignedHold args = three READS_FIRST 0 (word_below (at args 0))
 start_of Noise args = one (at args 0)
 start_of _ args = one 0
 
+-- what a process of this kind answers; one of no kind stops
+abbrev pub answer_by_kind : Option Signal → List ℕ → List ℕ → Option Token → Answer
+answer_by_kind found args local last = option_map_or (λ kind. answer_of kind args local last) found (stays local)
+
 -- a card of no kind stops
 abbrev pub signals : Family
 signals =
     record {
       start = λ card. option_map_or (λ kind. start_of kind card.args) (numbered card.kind) (one 0);
-      answer = λ card local last. option_map_or (λ kind. answer_of kind card.args local last) (numbered card.kind) (stays local);
+      answer = λ card local last. answer_by_kind (numbered card.kind) card.args local last;
     }

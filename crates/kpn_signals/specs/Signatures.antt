@@ -20,9 +20,13 @@ is_below n = nat_lt n (2 ^ 63)
 abbrev pub is_one_below : List ℕ → Bool
 is_one_below args = is_below (at args 0) && (at args 1 == 1)
 
+-- the first bound is at most the second
+abbrev pub are_in_order : ℕ → ℕ → ℕ → Bool
+are_in_order lo hi below = int_le (signed (word_below lo)) (signed (bound hi below))
+
 -- the bounds of `clip, signed`: the first is negative, and if `below` is 2 the second too
 abbrev pub are_bounds : ℕ → ℕ → ℕ → Bool
-are_bounds lo hi below = is_below lo && (is_below hi && ((below == 1 || below == 2) && int_le (signed (word_below lo)) (signed (bound hi below))))
+are_bounds lo hi below = is_below lo && (is_below hi && ((below == 1 || below == 2) && are_in_order lo hi below))
 
 -- after negative arguments comes how many they are, from the first on
 abbrev pub suit : Signal → List ℕ → Bool

@@ -67,8 +67,22 @@ called_by SignedOffset = (codes "offset", 1)
 called_by SignedGain = (codes "gain", 2)
 called_by kind = ((row_of kind).name, (row_of kind).arguments)
 
+-- the kinds from one of them on
+abbrev pub from_counter : List Signal
+from_counter = Counter ∷ Edge ∷ Noise ∷ Gate ∷ SignedOffset ∷ SignedGain ∷ []
+
+abbrev pub from_copy_flags : List Signal
+from_copy_flags =
+    CopyFlags ∷ Min ∷ Max ∷ Abs ∷ Offset ∷ Gain ∷ Div ∷ Mod ∷ Sum ∷ Difference ∷ Average ∷ from_counter
+
+abbrev pub from_clip : List Signal
+from_clip = Clip ∷ SignedConstant ∷ SignedHold ∷ SignedClip ∷ SignedScale ∷ SignedPrefix ∷ from_copy_flags
+
+abbrev pub from_less : List Signal
+from_less = Less ∷ Equal ∷ Not ∷ And ∷ Or ∷ Decimate ∷ Repeat ∷ Hold ∷ Delay ∷ LowPass ∷ from_clip
+
 abbrev pub all_kinds : List Signal
-all_kinds = Input ∷ InputFlags ∷ Drain ∷ DrainFlags ∷ Constant ∷ CountUp ∷ Sub ∷ Mul ∷ Shift ∷ Left ∷ Less ∷ Equal ∷ Not ∷ And ∷ Or ∷ Decimate ∷ Repeat ∷ Hold ∷ Delay ∷ LowPass ∷ Clip ∷ SignedConstant ∷ SignedHold ∷ SignedClip ∷ SignedScale ∷ SignedPrefix ∷ CopyFlags ∷ Min ∷ Max ∷ Abs ∷ Offset ∷ Gain ∷ Div ∷ Mod ∷ Sum ∷ Difference ∷ Average ∷ Counter ∷ Edge ∷ Noise ∷ Gate ∷ SignedOffset ∷ SignedGain ∷ []
+all_kinds = Input ∷ InputFlags ∷ Drain ∷ DrainFlags ∷ Constant ∷ CountUp ∷ Sub ∷ Mul ∷ Shift ∷ Left ∷ from_less
 
 abbrev pub numbered : ℕ → Option Signal
 numbered number = find (λ kind. number == (row_of kind).number) all_kinds

@@ -12,7 +12,9 @@ use Rattle.kpn_sketch.specs.declared.sketch.Sketch.{Sketch}
 use Rattle.kpn_sketch.specs.declared.sketch.Delay.{Delay}
 use Rattle.kpn_sketch.specs.declared.sketch.Delayed.{Delayed}
 use Rattle.kpn_sketch.specs.declared.form.Reading.{Reading}
+use Rattle.toml.specs.Errors.{IsMemory}
 use Rattle.toml.specs.Parse.{parse_document}
+use Rattle.toml.specs.declared.de.error.Error.{Error}
 use Rattle.kpn_model.specs.declared.limits.TheConstants.{DEFAULT_BUDGET}
 use Rattle.kpn_sketch.specs.declared.fault.NetFault.{NetFault}
 use Rattle.kpn_sketch.specs.declared.fault.NetFault.TheVariants.{NotToml, Keys, Memory}
@@ -27,8 +29,12 @@ o >>= f = option_and_then f o
 abbrev pub known_table : List (List ℕ) → Data → Option Members
 known_table known d = as_table d >>= (λ table. if has_only known table then Some table else None)
 
+-- flags, if the text names them
+abbrev pub flags_if_named : List ℕ → Option Sort
+flags_if_named text = if bytes_eq text (codes "flags") then Some Flags else None
+
 abbrev pub sort_named : List ℕ → Option Sort
-sort_named text = if bytes_eq text (codes "words") then Some Words else if bytes_eq text (codes "flags") then Some Flags else None
+sort_named text = if bytes_eq text (codes "words") then Some Words else flags_if_named text
 
 abbrev pub described_sort : Data → Option Sort
 described_sort d = as_str d >>= sort_named
@@ -53,9 +59,15 @@ token_of _ = None
 abbrev pub held_keys : Bool → List (List ℕ)
 held_keys has_delays = codes "tokens" ∷ (if has_delays then codes "delay" ∷ [] else [])
 
+abbrev pub later_keys : Reading → List (List ℕ)
+later_keys reading = if is_two reading.version then held_keys reading.has_delays else []
+
+-- those without which a channel has a default
+abbrev pub default_keys : Reading → List (List ℕ)
+default_keys reading = codes "out" ∷ codes "in" ∷ codes "sort" ∷ codes "capacity" ∷ later_keys reading
+
 abbrev pub channel_keys : Reading → List (List ℕ)
-channel_keys reading =
-    codes "name" ∷ codes "from" ∷ codes "to" ∷ codes "out" ∷ codes "in" ∷ codes "sort" ∷ codes "capacity" ∷ (if is_two reading.version then held_keys reading.has_delays else [])
+channel_keys reading = codes "name" ∷ codes "from" ∷ codes "to" ∷ default_keys reading
 
 abbrev pub channel_from : Members → Option ChannelSketch
 channel_from table =
@@ -67,17 +79,42 @@ channel_from table =
     optional described_sort Words (codes "sort") table >>= (λ sort.
     optional as_integer (pos 1) (codes "capacity") table >>= (λ capacity.
     optional (array_of token_of) [] (codes "tokens") table >>= (λ tokens.
-    Some (record { name = name; from = from; to = to; out = out; input = input; sort = sort; capacity = capacity; tokens = tokens })))))))))
+    Some (record {
+      name = name;
+      from = from;
+      to = to;
+      out = out;
+      input = input;
+      sort = sort;
+      capacity = capacity;
+      tokens = tokens;
+    })))))))))
 
 abbrev pub described_channel : Reading → Data → Option ChannelSketch
 described_channel reading d = known_table (channel_keys reading) d >>= channel_from
 
+-- the delay in the table of a channel
+abbrev pub delay_from : Members → Option Delay
+delay_from table = optional as_integer (pos 0) (codes "delay") table >>= (λ tokens. Some (record { tokens = tokens }))
+
 abbrev pub described_delay : Data → Option Delay
-described_delay d = as_table d >>= (λ table. optional as_integer (pos 0) (codes "delay") table >>= (λ tokens. Some (record { tokens = tokens })))
+described_delay d = as_table d >>= (λ table. delay_from table)
 
 -- growths have a step from version 2 on
+abbrev pub step_keys : ℤ → List (List ℕ)
+step_keys version = if is_two version then codes "step" ∷ [] else []
+
 abbrev pub top_keys : ℤ → List (List ℕ)
-top_keys version = codes "version" ∷ codes "budget" ∷ codes "process" ∷ codes "channel" ∷ (if is_two version then codes "step" ∷ [] else [])
+top_keys version = codes "version" ∷ codes "budget" ∷ codes "process" ∷ codes "channel" ∷ step_keys version
+
+-- how channels are read in a version
+abbrev pub reading_of : ℤ → Bool → Reading
+reading_of version has_delays = record { version = version; has_delays = has_delays }
+
+-- the channels in the table of a description
+abbrev pub described_channels : ℤ → Bool → Members → Option (List ChannelSketch)
+described_channels version has_delays table =
+    optional (array_of (described_channel (reading_of version has_delays))) [] (codes "channel") table
 
 abbrev pub sketch_by : Bool → Members → Option Sketch
 sketch_by has_delays table =
@@ -86,7 +123,7 @@ sketch_by has_delays table =
     optional as_integer (pos DEFAULT_BUDGET) (codes "budget") table >>= (λ budget.
     optional as_integer (pos 1) (codes "step") table >>= (λ step.
     required (array_of described_process) (codes "process") table >>= (λ processes.
-    optional (array_of (described_channel (record { version = version; has_delays = has_delays }))) [] (codes "channel") table >>= (λ channels.
+    described_channels version has_delays table >>= (λ channels.
     Some (record { version = version; budget = budget; step = step; processes = processes; channels = channels })))))
     else None)
 
@@ -99,6 +136,10 @@ delayed_of table =
     sketch_by true table >>= (λ sketch.
     optional (array_of described_delay) [] (codes "channel") table >>= (λ delays.
     Some (record { sketch = sketch; delays = delays })))
+
+-- an error is one of memory, or the text has no document
+abbrev pub IsTomlErrorOf : Error → List ℕ → Type 0
+IsTomlErrorOf error text = (IsMemory error → ⊥) → IsUtf8 text → parse_document text ≡ None
 
 -- how the table of a document is read
 abbrev pub Reader : Type 0 → Type 0

@@ -1,12 +1,10 @@
 //! Reading a description.
-ghost use Rattle.std.specs.Prelude.{◌≡◌, ℕ, pos, codes, List, None, IsUtf8, IfOk, IfErr};
+ghost use Rattle.std.specs.Prelude.{◌≡◌, ℕ, pos, codes, List, None, IfOk, IfErr};
 ghost use Rattle.toml.specs.Data.{as_integer};
-ghost use Rattle.toml.specs.Errors.{IsMemory};
-ghost use Rattle.toml.specs.Parse.{parse_document};
 ghost use Rattle.toml.specs.View.{table_view};
 ghost use Rattle.kpn_model.specs.declared.limits.TheConstants.{DEFAULT_BUDGET};
 ghost use Rattle.kpn_sketch.specs.Form.{Reads, required, optional, has_only};
-ghost use Rattle.kpn_sketch.specs.Description.{Describes, DescribesDelayed, IsDelayedFault, IsReadFault, delayed_of, sketch_by, top_keys, channel_keys, channel_from};
+ghost use Rattle.kpn_sketch.specs.Description.{Describes, DescribesDelayed, IsDelayedFault, IsReadFault, delayed_of, sketch_by, top_keys, channel_keys, channel_from, IsTomlErrorOf};
 
 use crate::fault::NetFault;
 use crate::form::{Form, Reading, find, has_only, optional, required};
@@ -70,8 +68,8 @@ fn delayed_of(alloc: Global, table: &Table) -> Result<Delayed, NetFault>
 }
 
 fn fault_of(error: &Error) -> NetFault
-    ensures plain { (text : List ℕ) → ((IsMemory error.now → ⊥) → IsUtf8 text → parse_document text ≡ None) → IsReadFault text result }
-    ensures delayed { (text : List ℕ) → ((IsMemory error.now → ⊥) → IsUtf8 text → parse_document text ≡ None) → IsDelayedFault text result }
+    ensures plain { (text : List ℕ) → IsTomlErrorOf error.now text → IsReadFault text result }
+    ensures delayed { (text : List ℕ) → IsTomlErrorOf error.now text → IsDelayedFault text result }
 {
     if error.is_memory() {
         NetFault::Memory

@@ -17,8 +17,12 @@ pub data AddLine : List ℕ → Option Token → Type 0 where
   add_reads_second : {x : ℕ} → AddLine (one 1) (Some (Word x))
   add_writes : {x y : ℕ} → AddLine (two 2 x) (Some (Word y))
 
+-- the word times the factor, modulo 2 ^ 64
+abbrev pub scaled : List ℕ → Token → ℕ
+scaled args t = (at args 0 * word t) % 2 ^ 64
+
 abbrev pub scale_answer : List ℕ → List ℕ → Token → Answer
-scale_answer args l t = if at l 0 == 0 then says 1 0 0 (Read 0) else says 0 0 0 (Write 0 (Word ((at args 0 * word t) % 2 ^ 64)))
+scale_answer args l t = if at l 0 == 0 then says 1 0 0 (Read 0) else says 0 0 0 (Write 0 (Word (scaled args t)))
 
 pub data ScaleLine : List ℕ → Option Token → Type 0 where
   scale_reads : ScaleLine (one 0) None

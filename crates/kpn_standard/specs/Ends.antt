@@ -6,8 +6,12 @@ use Rattle.kpn_model.specs.declared.kinds.Act.TheVariants.{Read, Write}
 use Rattle.kpn_model.specs.declared.kinds.Answer.{Answer}
 use Rattle.kpn_standard.specs.Locals.{at, one, says, stays}
 
+-- it writes the next number and counts it
+abbrev pub writes_next_number : List ℕ → List ℕ → Answer
+writes_next_number args l = says (at l 0 + 1) 0 0 (Write 0 (Word (at args 0 + at l 0)))
+
 abbrev pub count_answer : List ℕ → List ℕ → Token → Answer
-count_answer args l t = if nat_lt (at l 0) (at args 1) then says (at l 0 + 1) 0 0 (Write 0 (Word (at args 0 + at l 0))) else stays l
+count_answer args l t = if nat_lt (at l 0) (at args 1) then writes_next_number args l else stays l
 
 pub data CountLine (n : ℕ) : List ℕ → Option Token → Type 0 where
   count_writes : {i : ℕ} → i < n → CountLine n (one i) None

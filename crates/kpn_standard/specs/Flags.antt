@@ -6,8 +6,12 @@ use Rattle.kpn_model.specs.declared.kinds.Act.TheVariants.{Read, Write}
 use Rattle.kpn_model.specs.declared.kinds.Answer.{Answer}
 use Rattle.kpn_standard.specs.Locals.{at, one, two, says, word, flag}
 
+-- whether the number divides the word
+abbrev pub is_divided : List ℕ → Token → Bool
+is_divided args t = word t % at args 0 == 0
+
 abbrev pub divides_answer : List ℕ → List ℕ → Token → Answer
-divides_answer args l t = if at l 0 == 0 then says 1 0 0 (Read 0) else says 0 0 0 (Write 0 (Flag (word t % at args 0 == 0)))
+divides_answer args l t = if at l 0 == 0 then says 1 0 0 (Read 0) else says 0 0 0 (Write 0 (Flag (is_divided args t)))
 
 pub data DividesLine : List ℕ → Option Token → Type 0 where
   divides_reads : DividesLine (one 0) None

@@ -19,12 +19,17 @@ second_turn = 2
 abbrev pub second_turn_read : ℕ
 second_turn_read = 3
 
+-- it writes the token; the turn goes on if it has had fewer than `most` words, else it is the other's
+abbrev pub writes_in_turn : ℕ → ℕ → ℕ → ℕ → Token → Answer
+writes_in_turn turn other most before t =
+    if nat_lt (before + 1) most then says turn (before + 1) 0 (Write 0 t) else says other 0 0 (Write 0 t)
+
 abbrev pub weave_answer : List ℕ → List ℕ → Token → Answer
 weave_answer args l t =
     if at l 0 == first_turn then says first_turn_read (at l 1) 0 (Read 0) else
-    if at l 0 == first_turn_read then (if nat_lt (at l 1 + 1) (at args 0) then says first_turn (at l 1 + 1) 0 (Write 0 t) else says second_turn 0 0 (Write 0 t)) else
+    if at l 0 == first_turn_read then writes_in_turn first_turn second_turn (at args 0) (at l 1) t else
     if at l 0 == second_turn then says second_turn_read (at l 1) 0 (Read 1) else
-    (if nat_lt (at l 1 + 1) (at args 1) then says second_turn (at l 1 + 1) 0 (Write 0 t) else says first_turn 0 0 (Write 0 t))
+    writes_in_turn second_turn first_turn (at args 1) (at l 1) t
 
 pub data WeaveLine (a b : ℕ) : List ℕ → Option Token → Type 0 where
   weave_reads_first : {i : ℕ} → i < a → WeaveLine a b (two first_turn i) None

@@ -1,7 +1,8 @@
 -- The family of the twelve standard kinds.
-use Rattle.std.specs.Prelude.{ℕ, List, [], ◌∷◌}
+use Rattle.std.specs.Prelude.{ℕ, List, [], ◌∷◌, Option}
 use Rattle.std.specs.Option.{option_map_or}
 use Rattle.kpn_model.specs.declared.token.Token.{Token}
+use Rattle.kpn_model.specs.declared.kinds.Card.{Card}
 use Rattle.kpn_model.specs.declared.kinds.Answer.{Answer}
 use Rattle.kpn_model.specs.Network.{Family}
 use Rattle.kpn_standard.specs.declared.kind.Kind.{Kind}
@@ -28,9 +29,17 @@ answer_of Divides = divides_answer
 answer_of Switch = switch_answer
 answer_of Select = select_answer
 
+-- what a process of this kind answers; one of no kind stops
+abbrev pub answer_of_found : Option Kind → List ℕ → List ℕ → Token → Answer
+answer_of_found found args local t = option_map_or (λ kind. answer_of kind args local t) found (stays local)
+
 -- a card of an unknown number stops
 abbrev pub answer_by_number : ℕ → List ℕ → List ℕ → Token → Answer
-answer_by_number number args local t = option_map_or (λ kind. answer_of kind args local t) (numbered number) (stays local)
+answer_by_number number args local t = answer_of_found (numbered number) args local t
+
+-- what a process of the card answers
+abbrev pub answer_by_card : Card → List ℕ → Option Token → Answer
+answer_by_card card local last = answer_by_number card.kind card.args local (got last)
 
 abbrev pub standard : Family
-standard = record { start = λ card. 0 ∷ 0 ∷ 0 ∷ 0 ∷ []; answer = λ card local last. answer_by_number card.kind card.args local (got last) }
+standard = record { start = λ card. 0 ∷ 0 ∷ 0 ∷ 0 ∷ []; answer = λ card local last. answer_by_card card local last }

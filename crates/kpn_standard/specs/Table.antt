@@ -34,7 +34,7 @@ pub record Row : Type 0 where
   pub outs : List (Option Sort)
 
 abbrev pub tabled : ℕ → List ℕ → ℕ → List (Option Sort) → List (Option Sort) → Row
-tabled number name arguments ins outs = record { number = number; name = name; arguments = arguments; ins = ins; outs = outs }
+tabled number name count ins outs = record { number = number; name = name; arguments = count; ins = ins; outs = outs }
 
 -- a row of the code, without where its name lies in memory
 abbrev pub plain_row : CodeRow → Row

@@ -14,6 +14,10 @@ pub record CandidateList : Type 0 where
 abbrev pub candidate_list : List (ℕ × ℕ) → ℕ → CandidateList
 candidate_list pairs limit = record { pairs = pairs; limit = limit }
 
+-- the pair is there, and the others that were
+abbrev pub Inserts : List (ℕ × ℕ) → ℕ × ℕ → List (ℕ × ℕ) → Type 0
+Inserts old pair new = (x : ℕ × ℕ) → Contains new x ↔ ((x ≡ pair) ⊎ Contains old x)
+
 -- the pair, if it was there, is there no more; all others are
 pub record Removes (old : CandidateList) (pair : ℕ × ℕ) (new : CandidateList) : Type 0 where
   pub pairs : (x : ℕ × ℕ) → Contains new.pairs x ↔ ((x ≢ pair) × Contains old.pairs x)

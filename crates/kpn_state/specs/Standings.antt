@@ -73,18 +73,19 @@ HasChannel net (Took c t) = c < length net.channels
 HasChannel net (Put c t) = c < length net.channels
 HasChannel net DidStop = Unit {0}
 
--- the state and the standings are of the network's size, tokens have their channels' sorts, capacities are at least 1
--- and at most the ceiling, standings fit statuses, and each parked process wants what it answered and, except for the
--- spared one, can't do it
-pub record StandingsFit (kinds : Family) (admits : Admits) (net : Network) (spared : Option ℕ) (M : State) (standings : List Standing) : Type 0 where
-  pub processes : length M.processes ≡ length net.processes
-  pub channels : length M.channels ≡ length net.channels
-  pub one_each : length standings ≡ length net.processes
-  pub well_typed : IsWellTyped admits net M
-  pub smallest : (c : ℕ) → c < length net.channels → 1 ≤ capacity M c
-  pub greatest : (c : ℕ) → capacity M c ≤ net.ceiling
-  pub stopped : (p : ℕ) → standing standings p ≡ Stopped → status M p ≡ Done
-  pub done : (p : ℕ) → status M p ≡ Done → standing standings p ≡ Stopped
-  pub wanted : (p : ℕ) (a : Answer) → standing standings p ≡ Parked a → wants kinds net M p ≡ Some a
-  pub blocked : (p : ℕ) (a : Answer) → spared ≢ Some p → standing standings p ≡ Parked a
-      → IsPossible kinds net M p a.act → ⊥
+module _ (kinds : Family) (admits : Admits) (net : Network) where
+  -- the state and the standings are of the network's size, tokens have their channels' sorts, capacities are at least 1
+  -- and at most the ceiling, standings fit statuses, and each parked process wants what it answered and, except for the
+  -- spared one, can't do it
+  pub record StandingsFit (spared : Option ℕ) (M : State) (standings : List Standing) : Type 0 where
+    pub processes : length M.processes ≡ length net.processes
+    pub channels : length M.channels ≡ length net.channels
+    pub one_each : length standings ≡ length net.processes
+    pub well_typed : IsWellTyped admits net M
+    pub smallest : (c : ℕ) → c < length net.channels → 1 ≤ capacity M c
+    pub greatest : (c : ℕ) → capacity M c ≤ net.ceiling
+    pub stopped : (p : ℕ) → standing standings p ≡ Stopped → status M p ≡ Done
+    pub done : (p : ℕ) → status M p ≡ Done → standing standings p ≡ Stopped
+    pub wanted : (p : ℕ) (a : Answer) → standing standings p ≡ Parked a → wants kinds net M p ≡ Some a
+    pub blocked : (p : ℕ) (a : Answer) → spared ≢ Some p → standing standings p ≡ Parked a
+        → IsPossible kinds net M p a.act → ⊥

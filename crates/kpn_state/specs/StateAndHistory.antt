@@ -1,9 +1,11 @@
 -- A state with the history that led to it.
 use Rattle.std.specs.Prelude.{◌≡◌, ℕ, ◌<◌, ◌≤◌, ◌^◌, List, [], ◌∷◌, ◌++◌, length, drop}
 use Rattle.kpn_model.specs.declared.token.Token.{Token}
+use Rattle.kpn_model.specs.declared.history.Deed.TheVariants.{Took, Put}
 use Rattle.kpn_model.specs.declared.history.Entry.{Entry}
+use Rattle.kpn_model.specs.declared.history.Entry.TheVariants.{Did}
 use Rattle.kpn_model.specs.declared.history.Status.{Status}
-use Rattle.kpn_model.specs.Semantics.{State, Held, tokens, capacity, with_channel}
+use Rattle.kpn_model.specs.Semantics.{State, Held, tokens, capacity, without_first, after_take, after_put}
 use Rattle.kpn_model.specs.History.{growths}
 
 abbrev pub state : List Status → List Held → State
@@ -20,8 +22,20 @@ pub record StateAndHistory : Type 0 where
 abbrev pub state_and_history : State → List Entry → ℕ → StateAndHistory
 state_and_history M E limit = record { state = M; history = E; limit = limit }
 
+-- another state, with the same history
+abbrev pub put_in : StateAndHistory → State → StateAndHistory
+put_in s M = state_and_history M s.history s.limit
+
 abbrev pub more : StateAndHistory → State → Entry → StateAndHistory
 more s M e = state_and_history M (s.history ++ e ∷ []) s.limit
+
+-- p has taken the first token of c, and goes on from this local state
+abbrev pub more_taken : StateAndHistory → ℕ → List ℕ → ℕ → Token → StateAndHistory
+more_taken s p next c t = more s (after_take s.state p next c t) (Did p (Took c t))
+
+-- p has put the token into c, and goes on from this local state
+abbrev pub more_put : StateAndHistory → ℕ → List ℕ → ℕ → Token → StateAndHistory
+more_put s p next c t = more s (after_put s.state p next c t) (Did p (Put c t))
 
 -- p is a process, and there is room for one more entry
 pub record MayEnter (s : StateAndHistory) (p : ℕ) : Type 0 where
@@ -55,7 +69,7 @@ pub record MayGrow (s : StateAndHistory) (c to : ℕ) : Type 0 where
 -- this was the first token of c, and is gone, without an entry
 pub record Drains (s : StateAndHistory) (c : ℕ) (token : Token) (t : StateAndHistory) : Type 0 where
   pub token_is : tokens s.state c ≡ token ∷ drop 1 (tokens s.state c)
-  pub rest : t ≡ state_and_history (with_channel s.state c (drop 1 (tokens s.state c)) (capacity s.state c)) s.history s.limit
+  pub rest : t ≡ put_in s (without_first s.state c)
 
 -- `room` is enough for `limit` entries, `grown` counts growths, and processes and channels fit 16 bits
 pub record IsStored (s : StateAndHistory) (room grown : ℕ) : Type 0 where

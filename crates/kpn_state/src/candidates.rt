@@ -1,6 +1,6 @@
 //! The candidates for a growth.
-ghost use Rattle.std.specs.Prelude.{◌≡◌, ◌↔◌, ◌⊎◌, ℕ, ◌<◌, ◌≤◌, ◌+◌, length, [], get_or, slice_get, Contains, IfOk, IsTrue};
-ghost use Rattle.kpn_state.specs.Candidates.{IsBefore, IsInOrder, Removes, candidate_list};
+ghost use Rattle.std.specs.Prelude.{◌≡◌, ◌↔◌, ℕ, ◌<◌, ◌≤◌, ◌+◌, length, [], get_or, slice_get, IfOk, IsTrue};
+ghost use Rattle.kpn_state.specs.Candidates.{IsBefore, IsInOrder, Inserts, Removes, candidate_list};
 
 use std::alloc::{AllocError, Global};
 use std::marker::Model;
@@ -45,7 +45,7 @@ impl Candidates {
     /// Inserts a channel of this capacity, if it is missing. There must be room. Takes no memory.
     pub fn insert(&mut self, capacity: usize, channel: usize)
         requires { length self.old.pairs < self.old.limit }
-        ensures pairs { (x : ℕ × ℕ) → Contains self.new.pairs x ↔ ((x ≡ (capacity, channel)) ⊎ Contains self.old.pairs x) }
+        ensures pairs { Inserts self.old.pairs (capacity, channel) self.new.pairs }
         ensures many { length self.new.pairs ≤ length self.old.pairs + 1 }
         ensures limit { self.new.limit ≡ self.old.limit }
     {

@@ -1,11 +1,11 @@
 //! Processes, channels and the history. Each change has its entry, but for tokens from outside the network.
-ghost use Rattle.std.specs.Prelude.{◌≡◌, ◌<◌, ◌≤◌, ◌^◌, ◌++◌, ◌∷◌, [], length, drop, Some, None, IfOk, OnOk, OnErr};
+ghost use Rattle.std.specs.Prelude.{◌≡◌, ◌<◌, ◌≤◌, ◌^◌, ◌∷◌, [], length, drop, IfOk, OnOk, OnErr};
 ghost use Rattle.kpn_model.specs.History.{growths as growths_of};
-ghost use Rattle.kpn_model.specs.Semantics.{status, tokens, capacity, with_status, with_channel};
-ghost use Rattle.kpn_model.specs.declared.history.Status.TheVariants.{Live, Done};
+ghost use Rattle.kpn_model.specs.Semantics.{status, tokens, capacity, with_status, with_token, with_room};
+ghost use Rattle.kpn_model.specs.declared.history.Status.TheVariants.{Done};
 ghost use Rattle.kpn_model.specs.declared.history.Entry.TheVariants.{Did, Grew};
-ghost use Rattle.kpn_model.specs.declared.history.Deed.TheVariants.{Took, Put, Stopped};
-ghost use Rattle.kpn_state.specs.StateAndHistory.{state, state_and_history, more, MayEnter, MayTake, MayPut, MayGrow, HasFirst, HasSpace, Drains};
+ghost use Rattle.kpn_model.specs.declared.history.Deed.TheVariants.{Stopped};
+ghost use Rattle.kpn_state.specs.StateAndHistory.{state, state_and_history, put_in, more, more_taken, more_put, MayEnter, MayTake, MayPut, MayGrow, HasFirst, HasSpace, Drains};
 ghost use Rattle.kpn_state.specs.Packed.{IsSmall};
 
 use crate::keeper::{Keeper, Unkept, Wide};
@@ -157,7 +157,7 @@ impl<H: Keeper> Store<H> {
     pub fn take(&mut self, process: usize, channel: usize, next: Local) -> Token
         requires { MayTake self.old process channel }
         ensures token { tokens self.old.state channel ≡ result ∷ drop 1 (tokens self.old.state channel) }
-        ensures entry { self.new ≡ more self.old (with_channel (with_status self.old.state process (Live next (Some result))) channel (drop 1 (tokens self.old.state channel)) (capacity self.old.state channel)) (Did process (Took channel result)) }
+        ensures entry { self.new ≡ more_taken self.old process next channel result }
     {
         let ring = &mut self.rings[channel];
         let token = ring.take();
@@ -174,7 +174,7 @@ impl<H: Keeper> Store<H> {
     #[inline(always)]
     pub fn put(&mut self, process: usize, channel: usize, next: Local, token: Token)
         requires { MayPut self.old process channel }
-        ensures { self.new ≡ more self.old (with_channel (with_status self.old.state process (Live next None)) channel (tokens self.old.state channel ++ token ∷ []) (capacity self.old.state channel)) (Did process (Put channel token)) }
+        ensures { self.new ≡ more_put self.old process next channel token }
     {
         // The status first: its stores are then done while the token is put.
         self.statuses[process] = Status::Live {
@@ -189,7 +189,7 @@ impl<H: Keeper> Store<H> {
     /// Appends a token to a channel from outside the network, without an entry. The channel must have room.
     pub fn feed(&mut self, channel: usize, token: Token)
         requires { HasSpace self.old.state channel }
-        ensures { self.new ≡ state_and_history (with_channel self.old.state channel (tokens self.old.state channel ++ token ∷ []) (capacity self.old.state channel)) self.old.history self.old.limit }
+        ensures { self.new ≡ put_in self.old (with_token self.old.state channel token) }
     {
         let fed = &mut self.rings[channel];
         fed.put(token);
@@ -208,7 +208,7 @@ impl<H: Keeper> Store<H> {
     /// Errors: out of memory; nothing has then changed.
     pub fn grow(&mut self, channel: usize, to: usize) -> Result<(), AllocError>
         requires { MayGrow self.old channel to }
-        ensures ok { OnOk result (self.new ≡ more self.old (with_channel self.old.state channel (tokens self.old.state channel) to) (Grew channel to)) }
+        ensures ok { OnOk result (self.new ≡ more self.old (with_room self.old.state channel to) (Grew channel to)) }
         ensures err { OnErr result (self.new ≡ self.old) }
     {
         let ring = &mut self.rings[channel];

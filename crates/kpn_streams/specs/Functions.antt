@@ -34,11 +34,16 @@ woven_first a b (suc left) (x ∷ xs) ys = x ∷ woven_first a b left xs ys
 abbrev pub woven : ℕ → ℕ → List ℕ → List ℕ → List ℕ
 woven a b xs ys = woven_first a b (a - 1) xs ys
 
+-- the lesser of two heads, before what follows if it is the first, the second or both
+abbrev pub lesser_first : ℕ → ℕ → List ℕ → List ℕ → List ℕ → List ℕ
+lesser_first x y first second both =
+    if nat_lt x y then x ∷ first else if nat_lt y x then y ∷ second else x ∷ both
+
 -- merge: the lesser of the two heads, one of two equal ones; x is the head of the first stream, and `rest`
 -- merges its other numbers with a second stream
 abbrev pub merged_with : ℕ → (List ℕ → List ℕ) → List ℕ → List ℕ
 merged_with x rest [] = []
-merged_with x rest (y ∷ ys) = if nat_lt x y then x ∷ rest (y ∷ ys) else if nat_lt y x then y ∷ merged_with x rest ys else x ∷ rest ys
+merged_with x rest (y ∷ ys) = lesser_first x y (rest (y ∷ ys)) (merged_with x rest ys) (rest ys)
 
 abbrev pub merged : List ℕ → List ℕ → List ℕ
 merged [] ys = []

@@ -5,7 +5,7 @@ use Rattle.kpn_model.specs.declared.token.Token.{Token}
 use Rattle.kpn_model.specs.declared.kinds.Card.{Card}
 use Rattle.kpn_model.specs.declared.kinds.Signature.{Signature}
 use Rattle.kpn_standard.specs.Locals.{at}
-use Rattle.kpn_rounds.specs.Steps.{count}
+use Rattle.kpn_rounds.specs.Steps.{count, RoundStep}
 use Rattle.kpn_rounds.specs.Rounds.{number_of, token_at, made_by, rounds_family}
 use Rattle.kpn_streams.specs.Fed.{Writes}
 use Rattle.kpn_streams.specs.Filters.{scanned}
@@ -24,9 +24,18 @@ module _ (s : Signature) where
   abbrev pub columns : List (List ℕ) → List (List Token)
   columns made = map (column made) (range_with_len 0 (count s.outs))
 
+  -- what the outputs get of the rounds of a step, from what is kept at first, on these inputs
+  abbrev pub rounds_made : RoundStep → List ℕ → List (List Token) → List (List Token)
+  rounds_made step kept ins = columns (scanned (made_by s step) kept (side_by_side ins))
+
 -- fed with a stream for each input, a process writes what the steps make of the streams side by side
-abbrev pub RoundsScan : (Card → Option Signature) → (Card → List ℕ) → (Card → List ℕ → List ℕ → List ℕ × List ℕ) → Type 0
+abbrev pub RoundsScan : (Card → Option Signature) → (Card → List ℕ) → (Card → RoundStep) → Type 0
 RoundsScan ports start step =
     (card : Card) (s : Signature) (ins : List (List Token))
     → ports card ≡ Some s → 1 ≤ length ins → length ins ≡ count s.ins
-    → Writes (rounds_family ports start step) card ins (columns s (scanned (made_by s (step card)) (start card) (side_by_side ins)))
+    → Writes (rounds_family ports start step) card ins (rounds_made s (step card) (start card) ins)
+
+-- whatever the ports, the start and the step
+abbrev pub AllRoundsScan : Type 0
+AllRoundsScan =
+    (ports : Card → Option Signature) (start : Card → List ℕ) (step : Card → RoundStep) → RoundsScan ports start step

@@ -56,19 +56,29 @@ IsInOrder net =
     → b < length net.channels → c < length net.channels → (channel_of net b).reader ≡ (channel_of net c).writer
     → b < c
 
+-- the writer of c reads b
+abbrev pub is_read_for : Network → ℕ → ℕ → Bool
+is_read_for net b c = (channel_of net b).reader == (channel_of net c).writer
+
+-- b comes before all channels whose writer reads it
+abbrev pub precedes_all : Network → ℕ → Bool
+precedes_all net b = list_all (λ c. nat_lt b c || not (is_read_for net b c)) (range_with_len 0 (length net.channels))
+
 abbrev pub is_in_order : Network → Bool
-is_in_order net =
-    list_all (λ b. list_all (λ c. nat_lt b c || not ((channel_of net b).reader == (channel_of net c).writer)) (range_with_len 0 (length net.channels)))
-    (range_with_len 0 (length net.channels))
+is_in_order net = list_all (λ b. precedes_all net b) (range_with_len 0 (length net.channels))
 
 -- the tokens of p's first inputs, if the channels have the tokens X
 abbrev pub fed : Network → (ℕ → List Token) → ℕ → ℕ → List (List Token)
 fed net X p inputs = map (λ k. option_map_or X (in_of net p k) []) (range_with_len 0 inputs)
 
+-- of the channels at one output c is the first
+abbrev pub is_first_out : Network → ℕ → Bool
+is_first_out net c = option_map_or (λ b. b == c) (out_of net (channel_of net c).writer (channel_of net c).out) false
+
 -- what c gets of its writer's outputs: of two channels at one output only the first gets it
 abbrev pub written_to : Network → ℕ → List (List Token) → List Token
 written_to net c outs =
-    if option_map_or (λ b. b == c) (out_of net (channel_of net c).writer (channel_of net c).out) false then get_or outs (channel_of net c).out [] else []
+    if is_first_out net c then get_or outs (channel_of net c).out [] else []
 
 module _ (kinds : Family) (net : Network) where
   -- the equation of c: for the tokens X it has its start tokens, then what its writer writes to it
@@ -112,6 +122,10 @@ bare net =
       ceiling = 0;
     }
 
+-- deeds of p put these tokens on its outputs
+abbrev pub PutsOut : Network → ℕ → List Deed → List (List Token) → Type 0
+PutsOut net p ds outs = (k c : ℕ) → out_of net p k ≡ Some c → puts ds c ≡ get_or outs k []
+
 abbrev pub TestTellsPorts : Type 0
 TestTellsPorts =
     (net : Network) (p inputs outputs : ℕ)
@@ -134,7 +148,7 @@ module _ (kinds : Family) where
       (net : Network) (U : Streams) (p : ℕ) (ins outs : List (List Token))
       → p < length net.processes → HasOutputs net p (length outs)
       → Writes kinds (card_of net p) ins outs → ((k : ℕ) → BeginsAt U (in_of net p k) (get_or ins k []))
-      → (ds : List Deed) × DoesAlone kinds net U p ds × ((k c : ℕ) → out_of net p k ≡ Some c → puts ds c ≡ get_or outs k [])
+      → (ds : List Deed) × DoesAlone kinds net U p ds × PutsOut net p ds outs
 
   -- and no more, if the streams have no other tokens
   abbrev pub FedIsAll : Type 0

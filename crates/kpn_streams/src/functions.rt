@@ -1,11 +1,10 @@
 //! The functions of the standard kinds, of filters and of rounds, and laws of every family.
-ghost use Rattle.std.specs.Prelude.{ℕ, List, Option};
+ghost use Rattle.std.specs.Prelude.{ℕ, List};
 ghost use Rattle.kpn_model.specs.declared.kinds.Card.{Card};
-ghost use Rattle.kpn_model.specs.declared.kinds.Signature.{Signature};
 ghost use Rattle.kpn_model.specs.Network.{Family};
 ghost use Rattle.kpn_streams.specs.Kinds.{CountWrites, SinkWrites, TakeWrites, CopyWrites, PrefixWrites, AddWrites, ScaleWrites, WeaveWrites, MergeWrites, DividesWrites, SwitchWrites, SelectWrites, WeaveTakesTurns, MergeIsUnion};
 ghost use Rattle.kpn_streams.specs.Filters.{FiltersScan};
-ghost use Rattle.kpn_streams.specs.Rounds.{RoundsScan};
+ghost use Rattle.kpn_streams.specs.Rounds.{RoundsScan, AllRoundsScan};
 ghost use Rattle.kpn_streams.specs.Families.{AreFunctions, WriteAsTheirOwn};
 
 use kpn_compute::Filters;
@@ -58,7 +57,7 @@ pub fn filter_function_of<F: Filters>()
 /// side: of the first tokens with what is kept at the start, of all later ones with what the step before kept. There are
 /// as many rounds as the shortest stream has tokens.
 pub fn round_functions()
-    ensures scans { (ports : Card → Option Signature) (start : Card → List ℕ) (step : Card → List ℕ → List ℕ → List ℕ × List ℕ) → RoundsScan ports start step }
+    ensures scans { AllRoundsScan }
 {}
 
 /// Ghost lemma: the law of [`round_functions`] for the rounds of a type.

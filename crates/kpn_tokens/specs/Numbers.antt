@@ -1,5 +1,5 @@
 -- Texts of words of 64 bits, or of flags.
-use Rattle.std.specs.Prelude.{◌+◌, ◌-◌, ◌*◌, ◌/◌, ◌%◌, ◌^◌, ◌==◌, ◌&&◌, ◌||◌, ◌++◌, ℕ, zero, suc, Bool, true, false, not, if◌then◌else◌, bytes_eq, codes, decimal, drop, length, nat_le, nat_lt, slice_index, List, [], ◌∷◌, Option, Some, Result, Ok, Err}
+use Rattle.std.specs.Prelude.{◌+◌, ◌-◌, ◌*◌, ◌/◌, ◌%◌, ◌^◌, ◌==◌, ◌&&◌, ◌||◌, ◌++◌, ℕ, zero, suc, Bool, true, false, not, if◌then◌else◌, bytes_eq, codes, decimal, drop, length, nat_le, nat_lt, slice_index, List, [], ◌∷◌, Option, Some, Result, Ok, Err, ◌<◌, SomeIff}
 use Rattle.std.specs.Char.{digit_value}
 use Rattle.std.specs.List.{after_first, before_first, list_all, list_any}
 use Rattle.std.specs.Str.Parse.{digits_value, starts_with_minus, without_leading_sign}
@@ -10,6 +10,10 @@ use Rattle.kpn_model.specs.declared.token.Token.TheVariants.{Word, Flag}
 use Rattle.kpn_tokens.specs.declared.layouts.Decimals.{Decimals}
 use Rattle.kpn_tokens.specs.declared.layouts.RecordFault.{RecordFault}
 use Rattle.kpn_tokens.specs.declared.layouts.RecordFault.TheVariants.{NotAWord, NotAFlag, Underscore, TooPrecise, OutOfRange}
+
+-- the number, if it has 64 bits
+abbrev pub SomeIfWord : Option ℕ → ℕ → Type 0
+SomeIfWord result n = SomeIff result (n < 2 ^ 64) n
 
 abbrev pub is_point : ℕ → Bool
 is_point b = b == 46
@@ -36,11 +40,15 @@ digits_said places base digits after =
     else if nat_lt places after then Err TooPrecise
     else Ok (digits_value base digits * 10 ^ (places - after))
 
+-- the text without its point
+abbrev pub without_point : List ℕ → List ℕ
+without_point text = before_first is_point text ++ after_first is_point text
+
 -- a text without a sign, in units of 10 ^ -places; a hexadecimal number is the word itself
 abbrev pub number_said : ℕ → List ℕ → Result ℕ RecordFault
 number_said places text =
     if is_hexadecimal text then digits_said 0 16 (drop 2 text) 0
-    else digits_said places 10 (before_first is_point text ++ after_first is_point text) (length (after_first is_point text))
+    else digits_said places 10 (without_point text) (length (after_first is_point text))
 
 -- the word for a number, and for one below zero: its two's complement
 abbrev pub word_of : Result ℕ RecordFault → Bool → Result ℕ RecordFault
@@ -51,8 +59,12 @@ word_of (Ok n) true = if nat_le n (2 ^ 63) then Ok ((2 ^ 64 - n) % 2 ^ 64) else 
 abbrev pub word_said : ℕ → List ℕ → Result ℕ RecordFault
 word_said places text = word_of (number_said places (without_leading_sign text)) (starts_with_minus text)
 
+-- what a text other than `true` says of a flag
+abbrev pub false_said : List ℕ → Result Bool RecordFault
+false_said text = if bytes_eq text (codes "false") then Ok false else Err NotAFlag
+
 abbrev pub flag_said : List ℕ → Result Bool RecordFault
-flag_said text = if bytes_eq text (codes "true") then Ok true else if bytes_eq text (codes "false") then Ok false else Err NotAFlag
+flag_said text = if bytes_eq text (codes "true") then Ok true else false_said text
 
 abbrev pub as_token : {X : Type 0} → (X → Token) → Result X RecordFault → Result (Option Token) RecordFault
 as_token f (Ok x) = Ok (Some (f x))
@@ -75,8 +87,12 @@ units_text places n = if places == 0 then decimal n else decimal (n / 10 ^ place
 abbrev pub is_below_zero : Decimals → ℕ → Bool
 is_below_zero decimals n = not decimals.is_unsigned && nat_le (2 ^ 63) n
 
+-- a minus sign, and how far the word is below zero
+abbrev pub below_zero_text : Decimals → ℕ → List ℕ
+below_zero_text decimals n = codes "-" ++ units_text decimals.digits (2 ^ 64 - n)
+
 abbrev pub word_text : Decimals → ℕ → List ℕ
-word_text decimals n = if is_below_zero decimals n then codes "-" ++ units_text decimals.digits (2 ^ 64 - n) else units_text decimals.digits n
+word_text decimals n = if is_below_zero decimals n then below_zero_text decimals n else units_text decimals.digits n
 
 abbrev pub token_text : Decimals → Token → List ℕ
 token_text decimals (Word n) = word_text decimals n

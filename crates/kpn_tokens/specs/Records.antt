@@ -1,5 +1,5 @@
 -- Files of records: where one ends, what it says, and how it writes a token.
-use Rattle.std.specs.Prelude.{◌≡◌, ◌<◌, ◌≤◌, ◌==◌, ◌^◌, ◌++◌, ◌⊎◌, ℕ, suc, Bool, true, false, codes, drop, length, not, take, if◌then◌else◌, List, [], ◌∷◌, Option, Some, None, IfSome, Result, Ok, Err, IfOk, ⊤}
+use Rattle.std.specs.Prelude.{◌≡◌, ◌<◌, ◌≤◌, ◌==◌, ◌^◌, ◌++◌, ◌⊎◌, ℕ, suc, Bool, true, false, codes, drop, length, not, take, if◌then◌else◌, List, [], ◌∷◌, Option, Some, None, IfSome, Result, Ok, Err, IfOk, ⊤, ◌+◌}
 use Rattle.std.specs.List.{after_first, before_first, count_by, flat_map, position, position_or_len}
 use Rattle.std.specs.Str.{is_utf8, trim}
 use Rattle.csv.specs.Reading.{strip_bom}
@@ -14,6 +14,10 @@ use Rattle.kpn_tokens.specs.declared.layouts.Layout.{Layout}
 use Rattle.kpn_tokens.specs.declared.layouts.Layout.TheVariants.{Lines, Fields, Frames}
 use Rattle.kpn_tokens.specs.declared.layouts.RecordFault.{RecordFault}
 use Rattle.kpn_tokens.specs.declared.layouts.RecordFault.TheVariants.{NoText}
+use Rattle.kpn_tokens.specs.declared.reading.TokensFault.{TokensFault}
+use Rattle.kpn_tokens.specs.declared.reading.TokensFault.TheVariants.{Record}
+use Rattle.kpn_tokens.specs.declared.appending.AppendFault.{AppendFault}
+use Rattle.kpn_tokens.specs.declared.appending.AppendFault.TheVariants.{DoesNotFit}
 use Rattle.kpn_tokens.specs.Numbers.{token_said, token_text}
 use Rattle.kpn_tokens.specs.Rows.{field_text, is_line_feed, row_in, row_said}
 use Rattle.kpn_tokens.specs.Samples.{frame_said, frame_size, frame_text, has_sample}
@@ -40,6 +44,10 @@ cell_said decimals sort (b ∷ bs) = token_said decimals sort (b ∷ bs)
 abbrev pub text_said : Decimals → Sort → List ℕ → Result (Option Token) RecordFault
 text_said decimals sort line = if is_utf8 line then cell_said decimals sort (cell line) else Err NoText
 
+-- what the first line says; a byte order mark before it is ignored
+abbrev pub line_said : Decimals → Sort → List ℕ → Result (Option Token) RecordFault
+line_said decimals sort text = text_said decimals sort (strip_bom (before_first is_line_feed text))
+
 -- what a record says: a token, nothing, or a fault; a byte order mark before a line is ignored
 abbrev pub record_said : Layout → Sort → List ℕ → Result (Option Token) RecordFault
 record_said (Lines decimals) sort bytes = text_said decimals sort (strip_bom bytes)
@@ -54,23 +62,46 @@ abbrev pub listed : Option Token → List Token
 listed None = []
 listed (Some token) = token ∷ []
 
+-- the first record of a text says this, or has this fault
+abbrev pub FirstSays : Layout → Sort → List ℕ → Option Token → Type 0
+FirstSays layout sort text said = record_said layout sort (first layout text) ≡ Ok said
+
+abbrev pub FirstFails : Layout → Sort → List ℕ → RecordFault → Type 0
+FirstFails layout sort text fault = record_said layout sort (first layout text) ≡ Err fault
+
 -- the records of a text have these tokens; the last line needs no line feed
 pub data Say (layout : Layout) (sort : Sort) : List ℕ → List Token → Type 0 where
   nothing : {text : List ℕ} → length text ≡ 0 → Say layout sort text []
-  next : {text : List ℕ} {tokens : List Token} (said : Option Token) → 0 < length text → record_said layout sort (first layout text) ≡ Ok said
+  next : {text : List ℕ} {tokens : List Token} (said : Option Token) → 0 < length text → FirstSays layout sort text said
       → Say layout sort (rest layout text) tokens → Say layout sort text (listed said ++ tokens)
 
 -- the first records of a text have these tokens
 pub data Begin (layout : Layout) (sort : Sort) : List ℕ → List Token → Type 0 where
   stop : {text : List ℕ} → Begin layout sort text []
-  more : {text : List ℕ} {tokens : List Token} (said : Option Token) → 0 < length text → record_said layout sort (first layout text) ≡ Ok said
+  more : {text : List ℕ} {tokens : List Token} (said : Option Token) → 0 < length text → FirstSays layout sort text said
       → Begin layout sort (rest layout text) tokens → Begin layout sort text (listed said ++ tokens)
 
 -- the first record with a fault, counted from 1, and the fault
 pub data Fails (layout : Layout) (sort : Sort) : List ℕ → ℕ → RecordFault → Type 0 where
-  here : {text : List ℕ} {fault : RecordFault} → 0 < length text → record_said layout sort (first layout text) ≡ Err fault → Fails layout sort text 1 fault
-  later : {text : List ℕ} {number : ℕ} {fault : RecordFault} (said : Option Token) → 0 < length text → record_said layout sort (first layout text) ≡ Ok said
+  here : {text : List ℕ} {fault : RecordFault} → 0 < length text → FirstFails layout sort text fault
+      → Fails layout sort text 1 fault
+  later : {text : List ℕ} {number : ℕ} {fault : RecordFault} (said : Option Token)
+      → 0 < length text → FirstSays layout sort text said
       → Fails layout sort (rest layout text) number fault → Fails layout sort text (suc number) fault
+
+-- a result that names a record and a fault names the first
+abbrev pub NamesFirstFault : {T : Type 0} → Layout → Sort → List ℕ → Result T TokensFault → Type 0
+NamesFirstFault layout sort text result =
+    (number : ℕ) (fault : RecordFault) → result ≡ Err (Record number fault) → Fails layout sort text number fault
+
+-- there are more than a million tokens
+abbrev pub HasTooMany : Layout → Sort → List ℕ → Type 0
+HasTooMany layout sort text = (tokens : List Token) × Begin layout sort text tokens × (length tokens ≡ 1000001)
+
+-- the fault of a record is that of this one, which has this number
+abbrev pub NamesFaultOf : Layout → Sort → List ℕ → ℕ → TokensFault → Type 0
+NamesFaultOf layout sort bytes number e =
+    (n : ℕ) (fault : RecordFault) → e ≡ Record n fault → (number ≡ n) × (record_said layout sort bytes ≡ Err fault)
 
 -- the first record is complete; or no more bytes come
 abbrev pub IsEnded : Layout → List ℕ → Type 0
@@ -89,6 +120,22 @@ pub record IsCut (layout : Layout) (text : List ℕ) (last : Bool) (cut : Cut) :
   pub some : 0 < cut.used
   pub within : (cut.length ≤ cut.used) × (cut.used ≤ length text)
   pub whole : IsWhole layout text last
+
+-- how many bytes the first line has, without its line feed
+abbrev pub first_line_length : List ℕ → ℕ
+first_line_length text = position_or_len is_line_feed text
+
+-- the cut of the first line, with a line feed after it
+abbrev pub line_cut : List ℕ → Cut
+line_cut text = record { length = first_line_length text; used = first_line_length text + 1 }
+
+-- the first line ends within the text, and this cut is its
+abbrev pub IsLineCut : List ℕ → Cut → Type 0
+IsLineCut text cut = (cut ≡ line_cut text) × (first_line_length text < length text)
+
+-- the text has so many bytes, and this cut takes them
+abbrev pub IsFrameCut : ℕ → List ℕ → Cut → Type 0
+IsFrameCut size text cut = (cut ≡ record { length = size; used = size }) × (size ≤ length text)
 
 -- a token as a record
 abbrev pub record_text : Layout → Token → List ℕ
@@ -132,8 +179,17 @@ ReadsBack layout =
     (sort : Sort) (tokens : List Token)
     → AllFit layout sort tokens → Say layout sort (flat_map (record_text layout) tokens) tokens
 
+-- the place of the first token that does not fit
+abbrev pub misfit_place : Layout → List Token → Option ℕ
+misfit_place layout tokens = position (λ token. not (fits layout token)) tokens
+
 -- the token at this place is the first that does not fit; those before it were appended
 pub record IsRefused (layout : Layout) (old new : List ℕ) (tokens : List Token) (place : ℕ) : Type 0 where
   pub unclipped : clips layout ≡ false
   pub first_misfit : position (λ token. not (fits layout token)) tokens ≡ Some place
   pub appended : new ≡ old ++ flat_map (record_text layout) (take place tokens)
+
+-- a result that names a token names the first that does not fit, and those before it were appended
+abbrev pub NamesMisfit : {T : Type 0} → Layout → List ℕ → List ℕ → List Token → Result T AppendFault → Type 0
+NamesMisfit layout old new tokens result =
+    (place : ℕ) → result ≡ Err (DoesNotFit place) → IsRefused layout old new tokens place

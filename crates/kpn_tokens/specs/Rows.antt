@@ -1,5 +1,5 @@
 -- Lines of fields, as `csv` reads them.
-use Rattle.std.specs.Prelude.{◌≡◌, ◌==◌, ◌++◌, ℕ, Bool, List, [], ◌∷◌, if◌then◌else◌, replicate, Option, Some, None, Result, Ok, Err}
+use Rattle.std.specs.Prelude.{◌≡◌, ◌==◌, ◌++◌, ℕ, Bool, List, [], ◌∷◌, if◌then◌else◌, replicate, Option, Some, None, Result, Ok, Err, IfOk}
 use Rattle.std.specs.Borrow.{Bor}
 use Rattle.std.specs.List.{flat_map, list_any}
 use Rattle.std.specs.Option.{option_map_or}
@@ -92,6 +92,16 @@ cell_text cell = option_map_or (token_text cell.decimals) cell.token []
 abbrev pub separator_before : Separator → ℕ → List ℕ
 separator_before separator place = if place == 0 then [] else separator_byte separator ∷ []
 
+-- a cell after its separator
+abbrev pub separated_text : Separator → Cell → List ℕ
+separated_text separator cell = separator_byte separator ∷ cell_text cell
+
 abbrev pub cells_text : Separator → List Cell → List ℕ
 cells_text separator [] = []
-cells_text separator (cell ∷ cells) = cell_text cell ++ flat_map (λ other. separator_byte separator ∷ cell_text other) cells
+cells_text separator (cell ∷ cells) = cell_text cell ++ flat_map (separated_text separator) cells
+
+-- the reader's result is the row of the line at which it was
+abbrev pub ReadsRow : {E : Type 0} → Reader (Bor (List ℕ)) → Result (Result (Option Row) RecordFault) E → Type 0
+ReadsRow reader result =
+    (separator : Separator) (line : List ℕ)
+    → IsAtLine separator line reader → IfOk result (λ row. seen_row row ≡ row_in separator line)

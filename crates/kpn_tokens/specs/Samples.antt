@@ -68,9 +68,12 @@ greatest Unsigned width = numbers_of width - 1
 greatest Signed width = half_of width - 1
 greatest Offset width = half_of width - 1
 
+-- the least or the greatest word with a number, whichever is on the side of the word
+abbrev pub end_beside : Coding → Width → ℕ → ℕ
+end_beside coding width word = if nat_lt word (2 ^ 63) then greatest coding width else least coding width
+
 abbrev pub nearest : Coding → Width → ℕ → ℕ
-nearest coding width word =
-    if is_fit coding width word then word else if nat_lt word (2 ^ 63) then greatest coding width else least coding width
+nearest coding width word = if is_fit coding width word then word else end_beside coding width word
 
 -- a flag is 0 or 1
 abbrev pub word_for : Token → ℕ
@@ -82,12 +85,23 @@ abbrev pub token_for : Sort → ℕ → Result (Option Token) RecordFault
 token_for Words n = Ok (Some (Word n))
 token_for Flags n = if n == 0 then Ok (Some (Flag false)) else if n == 1 then Ok (Some (Flag true)) else Err NotAFlag
 
+-- the number and the word of the sample at the beginning of the bytes
+abbrev pub sampled_number : Sample → List ℕ → ℕ
+sampled_number sample bytes = number_in sample.endian (bytes_in sample.width) bytes
+
+abbrev pub sampled_word : Sample → List ℕ → ℕ
+sampled_word sample bytes = word_from sample.coding sample.width (sampled_number sample bytes)
+
 abbrev pub sample_said : Sample → Sort → List ℕ → Result (Option Token) RecordFault
-sample_said sample sort bytes = token_for sort (word_from sample.coding sample.width (number_in sample.endian (bytes_in sample.width) bytes))
+sample_said sample sort bytes = token_for sort (sampled_word sample bytes)
+
+-- the number for a word, or for the nearest that has one
+abbrev pub nearest_number : Sample → ℕ → ℕ
+nearest_number sample word = number_for sample.coding sample.width (nearest sample.coding sample.width word)
 
 -- the sample of a word, or of the nearest that has one
 abbrev pub word_sample : Sample → ℕ → List ℕ
-word_sample sample word = bytes_of sample.endian (bytes_in sample.width) (number_for sample.coding sample.width (nearest sample.coding sample.width word))
+word_sample sample word = bytes_of sample.endian (bytes_in sample.width) (nearest_number sample word)
 
 abbrev pub has_sample : Sample → Token → Bool
 has_sample sample token = is_fit sample.coding sample.width (word_for token)
@@ -96,12 +110,33 @@ has_sample sample token = is_fit sample.coding sample.width (word_for token)
 abbrev pub frame_size : Frame → ℕ
 frame_size frame = frame.before + bytes_in frame.sample.width + frame.after
 
+-- what the sample within a frame says
+abbrev pub within_said : Frame → Sort → List ℕ → Result (Option Token) RecordFault
+within_said frame sort bytes = sample_said frame.sample sort (drop frame.before bytes)
+
+-- the frame is longer than these bytes
+abbrev pub is_cut_short : Frame → List ℕ → Bool
+is_cut_short frame bytes = nat_lt (length bytes) (frame_size frame)
+
 abbrev pub frame_said : Frame → Sort → List ℕ → Result (Option Token) RecordFault
-frame_said frame sort bytes = if nat_lt (length bytes) (frame_size frame) then Err CutShort else sample_said frame.sample sort (drop frame.before bytes)
+frame_said frame sort bytes = if is_cut_short frame bytes then Err CutShort else within_said frame sort bytes
+
+-- the frame of a sample at one of `count` places side by side
+abbrev pub frame_at : Sample → ℕ → ℕ → Frame
+frame_at sample count place =
+    record {
+      before = place * bytes_in sample.width;
+      sample = sample;
+      after = (count - 1 - place) * bytes_in sample.width;
+    }
+
+-- the sample of a token
+abbrev pub token_sample : Sample → Token → List ℕ
+token_sample sample token = word_sample sample (word_for token)
 
 -- a token in its frame; all else is 0
 abbrev pub frame_text : Frame → Token → List ℕ
-frame_text frame token = replicate frame.before 0 ++ word_sample frame.sample (word_for token) ++ replicate frame.after 0
+frame_text frame token = replicate frame.before 0 ++ token_sample frame.sample token ++ replicate frame.after 0
 
 -- the word for a token of a channel, and its sample; 0 if absent
 abbrev pub channel_word : Option Token → ℕ

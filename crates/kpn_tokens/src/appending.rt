@@ -1,7 +1,7 @@
 //! Writes tokens as records.
-ghost use Rattle.std.specs.Prelude.{◌≡◌, ◌++◌, ℕ, false, not, Err, IfErr, IfOk, OnOk, replicate, Some};
+ghost use Rattle.std.specs.Prelude.{◌≡◌, ◌++◌, false, not, Err, IfErr, IfOk, OnOk, replicate, Some};
 ghost use Rattle.std.specs.List.{flat_map, position};
-ghost use Rattle.kpn_tokens.specs.Records.{IsMisfitCount, IsRefused, clips, fits, record_text};
+ghost use Rattle.kpn_tokens.specs.Records.{IsMisfitCount, clips, fits, record_text, NamesMisfit, misfit_place};
 ghost use Rattle.kpn_tokens.specs.Rows.{field_text};
 ghost use Rattle.kpn_tokens.specs.Samples.{frame_text};
 
@@ -40,7 +40,7 @@ pub fn append_tokens(
 ) -> Result<usize, AppendFault>
     ensures appends { OnOk result (out.new.items ≡ out.old.items ++ flat_map (record_text layout) tokens.now) }
     ensures counted { IfOk result (IsMisfitCount layout tokens.now) }
-    ensures refused { (place : ℕ) → result ≡ Err (AppendFault.DoesNotFit place) → IsRefused layout out.old.items out.new.items tokens.now place }
+    ensures refused { NamesMisfit layout out.old.items out.new.items tokens.now result }
 {
     let mut clipped = 0;
     for (place, token) in tokens.iter().enumerate() {
@@ -60,7 +60,7 @@ pub fn append_tokens(
 /// Errors: the nearest may not be written. Returns the place of the first that does not fit, counted from 0.
 pub fn count_misfits(layout: Layout, tokens: &[Token]) -> Result<usize, usize>
     ensures counted { IfOk result (IsMisfitCount layout tokens.now) }
-    ensures refused { IfErr result (λ place. (clips layout ≡ false) × (position (λ token. not (fits layout token)) tokens.now ≡ Some place)) }
+    ensures refused { IfErr result (λ place. (clips layout ≡ false) × (misfit_place layout tokens.now ≡ Some place)) }
 {
     if !may_clip(&layout) {
         return match first_misfit(&layout, tokens) {

@@ -1,7 +1,7 @@
 //! Where records end.
-ghost use Rattle.std.specs.Prelude.{◌≡◌, true, [], ◌==◌, ◌+◌, ◌<◌, ◌≤◌, IfNone, IfSome, MatchOption, length};
-ghost use Rattle.std.specs.List.{position, position_or_len};
-ghost use Rattle.kpn_tokens.specs.Records.{IsCut, IsEnded, first};
+ghost use Rattle.std.specs.Prelude.{◌≡◌, true, [], ◌==◌, ◌+◌, ◌<◌, IfNone, IfSome, MatchOption, length};
+ghost use Rattle.std.specs.List.{position};
+ghost use Rattle.kpn_tokens.specs.Records.{IsCut, IsEnded, first, IsFrameCut, IsLineCut, first_line_length};
 ghost use Rattle.kpn_tokens.specs.Rows.{is_line_feed};
 
 use crate::layouts::{Cut, Layout};
@@ -36,7 +36,7 @@ pub fn line_feed_in(bytes: &[u8]) -> Option<usize>
 
 /// Returns where the first line ends, if it has a line feed.
 pub(crate) fn line_in(bytes: &[u8]) -> Option<Cut>
-    ensures { MatchOption result (position_or_len is_line_feed bytes.now ≡ length bytes.now) (λ cut. (cut ≡ record { length = position_or_len is_line_feed bytes.now; used = position_or_len is_line_feed bytes.now + 1 }) × (position_or_len is_line_feed bytes.now < length bytes.now)) }
+    ensures { MatchOption result (first_line_length bytes.now ≡ length bytes.now) (IsLineCut bytes.now) }
 {
     match line_feed_in(bytes) {
         Some(length) => Some(Cut {
@@ -49,7 +49,7 @@ pub(crate) fn line_in(bytes: &[u8]) -> Option<Cut>
 
 /// Returns where the first frame ends, if it is complete.
 fn frame_in(size: usize, bytes: &[u8]) -> Option<Cut>
-    ensures { MatchOption result (length bytes.now < size) (λ cut. (cut ≡ record { length = size; used = size }) × (size ≤ length bytes.now)) }
+    ensures { MatchOption result (length bytes.now < size) (IsFrameCut size bytes.now) }
 {
     if bytes.len() < size {
         return None;

@@ -1,8 +1,7 @@
 //! The head of a file: that of a WAV file, or a row of names.
-ghost use Rattle.std.specs.Prelude.{◌≡◌, ◌<◌, ◌≤◌, ◌+◌, ◌*◌, ◌^◌, ◌++◌, ◌⊎◌, ℕ, true, false, None, Some, IfNone, IfSome, MatchOption, MatchResult, OnOk, length};
+ghost use Rattle.std.specs.Prelude.{◌≡◌, ◌<◌, ◌≤◌, ◌+◌, ◌*◌, ◌^◌, ◌++◌, true, false, None, Some, IfNone, IfSome, MatchOption, MatchResult, OnOk, length};
 ghost use Rattle.std.specs.List.{flat_map};
-ghost use Rattle.kpn_tokens.specs.Heads.{Finds, IsFrameOf, IsWavResult, body_size, chunk_size, has_letters, if_filled, is_pcm, is_wav, number_at, number_bytes, size_told, wav_sample, wav_text, width_of, width_told};
-ghost use Rattle.kpn_tokens.specs.Samples.{bytes_in};
+ghost use Rattle.kpn_tokens.specs.Heads.{IsFrameOf, IsWavResult, body_size, chunk_size, has_letters, if_filled, is_pcm, is_wav, number_at, number_bytes, size_told, wav_sample, width_of, width_told, HasChunkAt, HasLongFrames, HasNoChunk, WantsMore, WantsNoMore, wav_text_before};
 
 use crate::layouts::{Coding, Endian, Frame, Sample, Width};
 use byteorder::{ByteOrder, LittleEndian};
@@ -83,7 +82,7 @@ pub fn wav_head(bytes: &[u8], is_last: bool) -> Result<Option<WavHead>, WavFault
 }
 
 fn wanting(length: usize, is_last: bool) -> Result<Option<WavHead>, WavFault>
-    ensures { MatchResult result (λ head. (head ≡ None) × (is_last ≡ false) × (length ≤ 65536)) (λ fault. ((fault ≡ WavFault.CutShort) × (is_last ≡ true) × (length ≤ 65536)) ⊎ ((fault ≡ WavFault.TooLong) × (65536 < length))) }
+    ensures { MatchResult result (WantsMore length is_last) (WantsNoMore length is_last) }
 {
     if length > LONGEST_HEAD {
         Err(WavFault::TooLong)
@@ -102,7 +101,7 @@ fn is_wav(bytes: &[u8]) -> bool
 }
 
 fn chunk_in(bytes: &[u8], letters: &[u8]) -> Option<usize>
-    ensures { MatchOption result ((found : ℕ) → Finds bytes.now letters.now 12 found → ⊥) (λ found. Finds bytes.now letters.now 12 found × (found + 8 ≤ length bytes.now)) }
+    ensures { MatchOption result (HasNoChunk bytes.now letters.now) (HasChunkAt bytes.now letters.now) }
 {
     let mut place = 12;
     while bytes.len() >= 8 && place <= bytes.len() - 8 {
@@ -234,7 +233,7 @@ impl WavHead {
     /// Returns the frames of a channel; `None` if there is no such channel, or if a frame is too long.
     pub fn frame(&self, channel: u16) -> Option<Frame>
         ensures some { IfSome result (IsFrameOf self.now channel) }
-        ensures none { IfNone result (channel < self.now.channels → 2 ^ 16 ≤ self.now.channels * bytes_in self.now.sample.width) }
+        ensures none { IfNone result (channel < self.now.channels → HasLongFrames self.now) }
     {
         if channel >= self.channels {
             return None;
@@ -264,7 +263,7 @@ pub fn append_wav_head(
     rate: u32,
     frames: Option<u32>,
 ) -> Result<(), AllocError>
-    ensures { OnOk result (out.new.items ≡ out.old.items ++ wav_text channels (bytes_in width) rate (body_size frames (channels * bytes_in width))) }
+    ensures { OnOk result (out.new.items ≡ out.old.items ++ wav_text_before frames channels width rate) }
 {
     let block = channels as u64 * width.bytes() as u64;
     let size = body_size(frames, block);

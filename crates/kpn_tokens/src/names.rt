@@ -1,9 +1,8 @@
 //! Rows of names, before the rows of a CSV file.
-ghost use Rattle.std.specs.Prelude.{◌≡◌, ◌++◌, false, IfOk, OnOk, map, position};
+ghost use Rattle.std.specs.Prelude.{◌≡◌, ◌++◌, false, IfOk, OnOk, position};
 ghost use Rattle.std.specs.Option.{option_map_or};
 ghost use Rattle.csv.specs.Records.{field_at, fields_of};
-ghost use Rattle.csv.specs.Writing.{row_text};
-ghost use Rattle.kpn_tokens.specs.Heads.{column_in, is_name, names_writer};
+ghost use Rattle.kpn_tokens.specs.Heads.{column_in, is_name, names_row_text};
 ghost use Rattle.kpn_tokens.specs.Rows.{row_in};
 
 use crate::layouts::{RecordFault, Separator};
@@ -73,7 +72,7 @@ pub fn append_names(
     separator: Separator,
     names: &[&[u8]],
 ) -> Result<(), AllocError>
-    ensures { OnOk result (out.new.items ≡ out.old.items ++ row_text (names_writer separator) (map (λ name. name.now) names.now)) }
+    ensures { OnOk result (out.new.items ≡ out.old.items ++ names_row_text separator names.now) }
 {
     let mut writer = WriterBuilder::new()
         .delimiter(separator.byte())

@@ -1,9 +1,9 @@
 //! Words and flags as text.
-ghost use Rattle.std.specs.Prelude.{◌≡◌, ◌==◌, ◌+◌, ◌*◌, ◌^◌, ◌/◌, ◌<◌, ◌++◌, ◌||◌, [], ◌∷◌, SomeIff, OnOk, codes, decimal, length, true, false, Ok};
+ghost use Rattle.std.specs.Prelude.{◌≡◌, ◌==◌, ◌+◌, ◌*◌, ◌^◌, ◌/◌, ◌<◌, ◌++◌, ◌||◌, [], ◌∷◌, OnOk, codes, decimal, length, true, false, Ok};
 ghost use Rattle.std.specs.Char.{digit_value};
 ghost use Rattle.std.specs.List.{after_first, before_first, list_all, list_any, position};
 ghost use Rattle.std.specs.Str.Parse.{digits_value, digits_value_after};
-ghost use Rattle.kpn_tokens.specs.Numbers.{digits_said, flag_said, is_digit, is_point, is_underscore, last_digits, number_said, token_said, token_text, units_text, word_of, word_said, word_text};
+ghost use Rattle.kpn_tokens.specs.Numbers.{digits_said, flag_said, is_digit, is_point, is_underscore, last_digits, number_said, token_said, token_text, units_text, word_of, word_said, word_text, SomeIfWord};
 
 use crate::layouts::{Decimals, RecordFault};
 use itoa::{Buffer, write_digits};
@@ -140,7 +140,7 @@ fn value_of_digit(byte: u8) -> u8
 }
 
 fn value_of(zeros: u8, base: u8, whole: &[u8], part: &[u8]) -> Option<u64>
-    ensures { SomeIff result (digits_value base (whole.now ++ part.now) * 10 ^ zeros < 2 ^ 64) (digits_value base (whole.now ++ part.now) * 10 ^ zeros) }
+    ensures { SomeIfWord result (digits_value base (whole.now ++ part.now) * 10 ^ zeros) }
 {
     let Some(start) = value_after(0, base, whole) else {
         return None;
@@ -153,7 +153,7 @@ fn value_of(zeros: u8, base: u8, whole: &[u8], part: &[u8]) -> Option<u64>
 
 /// Continues a number with more digits; `None` past 64 bits.
 fn value_after(start: u64, base: u8, digits: &[u8]) -> Option<u64>
-    ensures { SomeIff result (digits_value_after base start digits.now < 2 ^ 64) (digits_value_after base start digits.now) }
+    ensures { SomeIfWord result (digits_value_after base start digits.now) }
 {
     let mut value = start;
     for digit in digits {
@@ -166,7 +166,7 @@ fn value_after(start: u64, base: u8, digits: &[u8]) -> Option<u64>
 }
 
 fn with_digit(value: u64, base: u8, digit: u8) -> Option<u64>
-    ensures { SomeIff result (value * base + digit_value digit < 2 ^ 64) (value * base + digit_value digit) }
+    ensures { SomeIfWord result (value * base + digit_value digit) }
 {
     value
         .checked_mul(base as u64)?
@@ -175,7 +175,7 @@ fn with_digit(value: u64, base: u8, digit: u8) -> Option<u64>
 
 /// Returns `value` times 10^zeros; `None` past 64 bits.
 fn scaled(value: u64, zeros: u8) -> Option<u64>
-    ensures { SomeIff result (value * 10 ^ zeros < 2 ^ 64) (value * 10 ^ zeros) }
+    ensures { SomeIfWord result (value * 10 ^ zeros) }
 {
     if value == 0 {
         return Some(0);

@@ -1,10 +1,8 @@
 //! Reads a file record by record.
-ghost use Rattle.std.specs.Prelude.{◌≡◌, ◌≢◌, ◌<◌, ◌≤◌, ◌+◌, ℕ, List, Ok, Err, IfErr, IfOk, IfSome, length};
+ghost use Rattle.std.specs.Prelude.{◌≡◌, ◌≢◌, ◌<◌, ◌≤◌, ◌+◌, Ok, Err, IfErr, IfOk, IfSome, length};
 ghost use Rattle.std.specs.List.{AllByRecursion};
-ghost use Rattle.kpn_model.specs.declared.token.Token.{Token as TokenV};
 ghost use Rattle.kpn_model.specs.Valid.{IsOfSort};
-ghost use Rattle.kpn_tokens.specs.declared.layouts.RecordFault.{RecordFault as RecordFaultV};
-ghost use Rattle.kpn_tokens.specs.Records.{Begin, Fails, Say, first, record_said, rest};
+ghost use Rattle.kpn_tokens.specs.Records.{Say, first, record_said, rest, HasTooMany, NamesFaultOf, NamesFirstFault};
 
 use crate::cutting::record_in;
 use crate::layouts::{Layout, RecordFault};
@@ -36,8 +34,8 @@ pub fn read_tokens(
     ensures says { IfOk result (λ tokens. Say layout sort bytes.now tokens.items) }
     ensures sorted { IfOk result (λ tokens. AllByRecursion (IsOfSort sort) tokens.items) }
     ensures few { IfOk result (λ tokens. length tokens.items ≤ 1000000) }
-    ensures line { (number : ℕ) (fault : RecordFaultV) → result ≡ Err (TokensFault.Record number fault) → Fails layout sort bytes.now number fault }
-    ensures many { result ≡ Err TokensFault.TooMany → (tokens : List TokenV) × Begin layout sort bytes.now tokens × (length tokens ≡ 1000001) }
+    ensures line { NamesFirstFault layout sort bytes.now result }
+    ensures many { result ≡ Err TokensFault.TooMany → HasTooMany layout sort bytes.now }
 {
     let mut tokens = Vec::new(alloc);
     let mut rest = bytes;
@@ -71,7 +69,7 @@ fn token_at(
 ) -> Result<Option<Token>, TokensFault>
     ensures said { IfOk result (λ said. record_said layout sort bytes.now ≡ Ok said) }
     ensures sorted { IfOk result (λ said. IfSome said (IsOfSort sort)) }
-    ensures fault { IfErr result (λ e. (n : ℕ) (fault : RecordFaultV) → e ≡ TokensFault.Record n fault → (number ≡ n) × (record_said layout sort bytes.now ≡ Err fault)) }
+    ensures fault { IfErr result (NamesFaultOf layout sort bytes.now number) }
     ensures few { IfErr result (λ e. e ≢ TokensFault.TooMany) }
 {
     match token_of_record(alloc, layout, sort, bytes) {

@@ -1,11 +1,11 @@
 //! Reads tokens from lines of fields.
-ghost use Rattle.std.specs.Prelude.{◌≡◌, ◌++◌, ◌∷◌, [], ℕ, List, false, IfOk, Some};
+ghost use Rattle.std.specs.Prelude.{◌≡◌, ◌++◌, ◌∷◌, [], false, IfOk, Some};
 ghost use Rattle.std.specs.Option.{option_map_or};
 ghost use Rattle.csv.specs.Reading.{Ready, reader_config, reader_state, reader_trim, source_of, strip_bom};
 ghost use Rattle.csv.specs.declared.parser.State.TheVariants as st;
 ghost use Rattle.csv.specs.declared.reader.Trim.TheVariants as trim;
 ghost use Rattle.csv.specs.Records.{field_at, fields_of};
-ghost use Rattle.kpn_tokens.specs.Rows.{IsAtLine, config_of, field_said, is_open, is_open_field, row_in, row_said, seen_row};
+ghost use Rattle.kpn_tokens.specs.Rows.{config_of, field_said, is_open, is_open_field, row_in, row_said, seen_row, ReadsRow};
 
 use crate::layouts::{Column, RecordFault, Separator};
 use crate::numbers::token_in;
@@ -47,7 +47,7 @@ fn only_row(
     alloc: Global,
     reader: &mut Reader<&[u8]>,
 ) -> Result<Result<Option<ByteRecord>, RecordFault>, AllocError>
-    ensures { (separator : Separator) (line : List ℕ) → IsAtLine separator line reader.old → IfOk result (λ row. seen_row row ≡ row_in separator line) }
+    ensures { ReadsRow reader.old result }
 {
     let mut row = ByteRecord::new(alloc);
     let Ok(found) = reader.read_byte_record(&mut row) else {

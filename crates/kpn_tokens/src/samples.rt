@@ -1,7 +1,7 @@
 //! Words and flags as samples.
 ghost use Rattle.std.specs.Prelude.{◌≡◌, ◌<◌, ◌≤◌, ◌++◌, OnOk, length, true};
 ghost use Rattle.kpn_tokens.specs.Records.{IsSaidOf};
-ghost use Rattle.kpn_tokens.specs.Samples.{bytes_in, frame_said, half_of, is_fit, nearest, number_for, number_in, numbers_of, word_for, word_from, word_sample};
+ghost use Rattle.kpn_tokens.specs.Samples.{bytes_in, frame_said, half_of, is_fit, nearest, number_for, numbers_of, word_for, word_sample, sampled_word};
 
 use crate::layouts::{Coding, Endian, Frame, RecordFault, Sample, Width};
 use byteorder::{BigEndian, ByteOrder, LittleEndian};
@@ -28,7 +28,7 @@ pub fn token_of_frame(frame: &Frame, sort: Sort, bytes: &[u8]) -> Result<Option<
 
 fn word_in(sample: &Sample, bytes: &[u8]) -> u64
     requires { bytes_in sample.now.width ≤ length bytes.now }
-    ensures { result ≡ word_from sample.now.coding sample.now.width (number_in sample.now.endian (bytes_in sample.now.width) bytes.now) }
+    ensures { result ≡ sampled_word sample.now bytes.now }
 {
     let number = match sample.endian {
         Endian::Little => number_by::<LittleEndian>(sample.width, bytes),

@@ -2,7 +2,7 @@
 ghost use Rattle.std.specs.Prelude.{◌≡◌, ◌==◌, ◌<◌, IfNone, IfOk, IfSome, length, slice_index};
 ghost use Rattle.std.specs.List.{before_first, position_or_len};
 ghost use Rattle.csv.specs.Reading.{is_bom, strip_bom};
-ghost use Rattle.kpn_tokens.specs.Records.{IsSaidOf, cell, record_said, text_said};
+ghost use Rattle.kpn_tokens.specs.Records.{IsSaidOf, cell, record_said, text_said, line_said};
 ghost use Rattle.kpn_tokens.specs.Rows.{is_line_feed};
 
 use crate::cutting::line_in;
@@ -53,7 +53,7 @@ pub fn first_line(decimals: Decimals, sort: Sort, bytes: &[u8]) -> Option<Line>
     ensures none { IfNone result (position_or_len is_line_feed bytes.now ≡ length bytes.now) }
     ensures ends { IfSome result (λ line. line.length ≡ position_or_len is_line_feed bytes.now) }
     ensures within { IfSome result (λ line. line.length < length bytes.now) }
-    ensures said { IfSome result (λ line. line.said ≡ text_said decimals sort (strip_bom (before_first is_line_feed bytes.now))) }
+    ensures said { IfSome result (λ line. line.said ≡ line_said decimals sort bytes.now) }
     ensures sorted { IfSome result (λ line. IsSaidOf sort line.said) }
 {
     if decimals.digits == 0 && matches!(sort, Sort::Words) {

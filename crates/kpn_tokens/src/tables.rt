@@ -1,9 +1,8 @@
 //! Files with several channels side by side.
 ghost use Rattle.std.specs.Prelude.{◌≡◌, ◌++◌, OnOk, codes};
-ghost use Rattle.std.specs.List.{flat_map};
 ghost use Rattle.kpn_tokens.specs.Rows.{cell_text, cells_text, separator_before};
-ghost use Rattle.kpn_tokens.specs.Samples.{channel_text, channel_word};
-ghost use Rattle.kpn_tokens.specs.Tables.{column_layout, row_text};
+ghost use Rattle.kpn_tokens.specs.Samples.{channel_word};
+ghost use Rattle.kpn_tokens.specs.Tables.{column_layout, row_text, samples_text};
 
 use crate::layouts::{Cell, Column, Decimals, Frame, Layout, Sample, Separator};
 use crate::numbers::{append_byte, append_token};
@@ -76,7 +75,7 @@ fn append_cell(
 }
 
 fn append_samples(out: &mut Vec<u8>, sample: &Sample, cells: &[Cell]) -> Result<(), AllocError>
-    ensures { OnOk result (out.new.items ≡ out.old.items ++ flat_map (λ cell. channel_text sample.now cell.token) cells.now) }
+    ensures { OnOk result (out.new.items ≡ out.old.items ++ samples_text sample.now cells.now) }
 {
     for cell in cells {
         append_sample(out, sample, word_of_channel(cell.token))?;

@@ -1,6 +1,6 @@
 //! The text of a verdict.
 ghost use Rattle.std.specs.Prelude.{◌≡◌, ◌++◌, OnOk, IfOk, string_bytes};
-ghost use Rattle.kpn_verdict.specs.VerdictText.{circle_text, verdict_line, verdict_words, wait_text};
+ghost use Rattle.kpn_verdict.specs.VerdictText.{verdict_line, verdict_words, AppendsWords, AppendsCircle, AppendsWait};
 
 use crate::waits::{place_at, waits_for};
 use kpn_model::{Kinds, Place, Verdict};
@@ -61,7 +61,7 @@ fn push_cycle<K: Kinds>(
     left: &Left<'_, K>,
     process: usize,
 ) -> Result<(), AllocError>
-    ensures { OnOk result (string_bytes out.new ≡ string_bytes out.old ++ verdict_words left.now.net.now left.now.places.now (Verdict.Cycle process)) }
+    ensures { OnOk result (AppendsWords left.now.net.now left.now.places.now out.old out.new (Verdict.Cycle process)) }
 {
     out.push_str("cycle")?;
     push_circle(out, left, left.net.processes(), process, process)
@@ -75,7 +75,7 @@ fn push_circle<K: Kinds>(
     goal: usize,
     process: usize,
 ) -> Result<(), AllocError>
-    ensures { OnOk result (string_bytes out.new ≡ string_bytes out.old ++ circle_text left.now.net.now left.now.places.now most goal process) }
+    ensures { OnOk result (AppendsCircle left.now.net.now left.now.places.now out.old out.new most goal process) }
 {
     if most == 0 {
         return Ok(());
@@ -96,7 +96,7 @@ fn push_wait<K: Kinds>(
     process: usize,
     waiting: usize,
 ) -> Result<(), AllocError>
-    ensures { OnOk result (string_bytes out.new ≡ string_bytes out.old ++ wait_text left.now.net.now left.now.places.now process waiting) }
+    ensures { OnOk result (AppendsWait left.now.net.now left.now.places.now out.old out.new process waiting) }
 {
     let name = process_name(left.net, process);
     match place_at(left.places, waiting) {

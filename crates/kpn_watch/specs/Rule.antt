@@ -35,9 +35,24 @@ pub record WordIsTrue (s : State (Unit {0}) View) : Type 0 where
 abbrev pub It : Type 0
 It = Me (Unit {0}) View
 
+-- the word shows what is seen now
+abbrev pub ShowsSeen : ℕ → It → Type 0
+ShowsSeen found now = found ≡ word_of now.0.seen.entries now.0.seen.phase
+
+-- what was seen fits a word
+abbrev pub FitsWord : Seen → Type 0
+FitsWord seen = length seen.entries < 2 ^ 22
+
+-- what is seen now continues what was seen before
+abbrev pub SeesOn : It → It → Type 0
+SeesOn me now = ContinuesSeen me.0.seen now.0.seen
+
+abbrev pub KeepsNote : It → It → Type 0
+KeepsNote me now = now.0.note ≡ me.0.note
+
 -- the word shows what is seen now, which continues what was seen before
 abbrev pub Looks : Step (Unit {0}) → It → ℕ → It → Type 0
-Looks s me found now = (found ≡ word_of now.0.seen.entries now.0.seen.phase) × (length now.0.seen.entries < 2 ^ 22) × ContinuesSeen me.0.seen now.0.seen × (now.0.note ≡ me.0.note) × (now.1 ≡ me.1)
+Looks s me found now = ShowsSeen found now × FitsWord now.0.seen × SeesOn me now × KeepsNote me now × (now.1 ≡ me.1)
 
 abbrev pub Publishes : Seen → Step (Unit {0}) → It → ℕ → It → Type 0
 Publishes news s me stored now = now ≡ (record { seen = news; note = me.0.note }, me.1)

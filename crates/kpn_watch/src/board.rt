@@ -1,8 +1,8 @@
 //! The published word, its publisher, and the watchers.
-ghost use Rattle.std.specs.Prelude.{◌≡◌, ◌≢◌, ◌+◌, ◌^◌, ◌<◌, ◌↔◌, [], length, IfOk, OnErr, IsErr};
+ghost use Rattle.std.specs.Prelude.{◌≡◌, ◌≢◌, ◌^◌, ◌<◌, ◌↔◌, [], length, IfOk, OnErr, IsErr};
 ghost use mathlib.Core.List.{IsPrefix};
 ghost use Rattle.kpn_model.specs.History.{growths as growths_of};
-ghost use Rattle.kpn_watch.specs.Boards.{MayPublish};
+ghost use Rattle.kpn_watch.specs.Boards.{MayPublish, shown_by, one_more_watcher, SameIfEnded};
 ghost use Rattle.kpn_watch.specs.Shown.{shows};
 
 use crate::progress::{Phase, Progress};
@@ -155,8 +155,8 @@ impl Board {
     /// 64 were made before; nothing changes then.
     pub fn split(&self, publisher: &mut Publisher) -> Result<Watcher, WatchFault>
         requires { publisher.old.board ≡ self.now }
-        ensures seen { IfOk result (λ w. w ≡ record { board = publisher.old.board; entries = publisher.old.entries; phase = publisher.old.phase }) }
-        ensures made { IfOk result (λ _. publisher.new ≡ record publisher.old { watchers = publisher.old.watchers + 1 }) }
+        ensures seen { IfOk result (λ w. w ≡ shown_by publisher.old) }
+        ensures made { IfOk result (λ _. publisher.new ≡ one_more_watcher publisher.old) }
         ensures full { IsErr result ↔ (publisher.old.watchers ≡ MOST_WATCHERS) }
         ensures kept { OnErr result (publisher.new ≡ publisher.old) }
     {
@@ -187,7 +187,7 @@ impl Board {
         requires watcher { watcher.board ≡ self.now }
         requires publisher { publisher.old.board ≡ self.now }
         ensures goes_on { IsPrefix watcher.entries publisher.old.entries }
-        ensures ended { watcher.phase ≢ Phase.Running → (publisher.old.entries ≡ watcher.entries) × (publisher.old.phase ≡ watcher.phase) }
+        ensures ended { SameIfEnded watcher.entries watcher.phase publisher.old.entries publisher.old.phase }
         ensures kept { publisher.new ≡ publisher.old }
     {
         let Watcher { seat } = watcher;

@@ -1,8 +1,8 @@
 //! A publisher that keeps the numbers of what it published last.
-ghost use Rattle.std.specs.Prelude.{◌≡◌, ◌≢◌, ◌+◌, ◌^◌, ◌<◌, ◌↔◌, [], length, count_by, IfOk, IsErr, OnErr};
+ghost use Rattle.std.specs.Prelude.{◌≡◌, ◌^◌, ◌<◌, ◌↔◌, [], length, count_by, IfOk, IsErr, OnErr};
 ghost use mathlib.Core.List.{IsPrefix};
 ghost use Rattle.kpn_model.specs.History.{growths as growths_of};
-ghost use Rattle.kpn_watch.specs.Boards.{MayPublish};
+ghost use Rattle.kpn_watch.specs.Boards.{MayPublish, shown_by, one_more_watcher, SameIfEnded};
 ghost use Rattle.kpn_watch.specs.Phases.{phase_of};
 ghost use Rattle.kpn_watch.specs.Shown.{shows, is_growth};
 
@@ -96,8 +96,8 @@ impl CountingPublisher {
     /// Makes a watcher that has seen what is published. Fails exactly if 64 were made; nothing changes then.
     pub fn watch(&mut self, board: &Board) -> Result<Watcher, WatchFault>
         requires { self.old.board ≡ board.now }
-        ensures seen { IfOk result (λ w. w ≡ record { board = self.old.board; entries = self.old.entries; phase = self.old.phase }) }
-        ensures made { IfOk result (λ _. self.new ≡ record self.old { watchers = self.old.watchers + 1 }) }
+        ensures seen { IfOk result (λ w. w ≡ shown_by self.old) }
+        ensures made { IfOk result (λ _. self.new ≡ one_more_watcher self.old) }
         ensures full { IsErr result ↔ (self.old.watchers ≡ MOST_WATCHERS) }
         ensures kept { OnErr result (self.new ≡ self.old) }
     {
@@ -110,7 +110,7 @@ impl CountingPublisher {
         requires board { self.old.board ≡ board.now }
         requires watcher { watcher.board ≡ board.now }
         ensures goes_on { IsPrefix watcher.entries self.old.entries }
-        ensures ended { watcher.phase ≢ Phase.Running → (self.old.entries ≡ watcher.entries) × (self.old.phase ≡ watcher.phase) }
+        ensures ended { SameIfEnded watcher.entries watcher.phase self.old.entries self.old.phase }
         ensures shown { result ≡ shows self.old.entries self.old.phase }
         ensures kept { self.new ≡ self.old }
     {

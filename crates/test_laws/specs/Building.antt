@@ -52,7 +52,17 @@ switch = process 10 0 0
 
 -- an empty channel of words from an output to an input, each a process and its port
 abbrev pub words : ℕ × ℕ → ℕ × ℕ → ℕ → Channel
-words from to capacity = record { name = []; writer = from.0; out = from.1; reader = to.0; input = to.1; sort = Words; capacity = capacity; tokens = [] }
+words from to capacity =
+    record {
+      name = [];
+      writer = from.0;
+      out = from.1;
+      reader = to.0;
+      input = to.1;
+      sort = Words;
+      capacity = capacity;
+      tokens = [];
+    }
 
 -- an empty channel of flags
 abbrev pub flags : ℕ × ℕ → ℕ × ℕ → ℕ → Channel
@@ -64,6 +74,30 @@ holding tokens c = record c { tokens = tokens }
 abbrev pub numbers : List ℕ → List Token
 numbers ns = map (λ n. Word n) ns
 
+-- the streams of one number, and of one to three or six
+abbrev pub just_number : ℕ → List Token
+just_number n = numbers (n ∷ [])
+
+abbrev pub one_to_three : List Token
+one_to_three = numbers (1 ∷ 2 ∷ 3 ∷ [])
+
+abbrev pub one_to_three_twice : List Token
+one_to_three_twice = numbers (1 ∷ 2 ∷ 3 ∷ 1 ∷ 2 ∷ 3 ∷ [])
+
+abbrev pub one_to_six : List Token
+one_to_six = numbers (1 ∷ 2 ∷ 3 ∷ 4 ∷ 5 ∷ 6 ∷ [])
+
+-- the channel of running sums from the copy back to the adder, which begins with 0
+abbrev pub sums_back : Channel
+sums_back = holding (numbers (0 ∷ [])) (words (2, 0) (1, 1) 1)
+
 -- a network with a budget of 10,000; its channels grow by one, up to 65,535
 abbrev pub network : List Process → List Channel → Network
-network processes channels = record { processes = processes; channels = channels; budget = 10000; step = 1; ceiling = 65535 }
+network processes channels =
+    record {
+      processes = processes;
+      channels = channels;
+      budget = 10000;
+      step = 1;
+      ceiling = 65535;
+    }

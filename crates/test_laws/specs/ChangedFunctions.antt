@@ -8,7 +8,7 @@ use Rattle.kpn_model.specs.declared.kinds.Card.{Card}
 use Rattle.kpn_model.specs.declared.kinds.Signature.{Signature}
 use Rattle.kpn_standard.specs.declared.kind.Kind.TheVariants.{Count, Take, Copy, Prefix, Add, Weave, Merge, Divides, Switch, Select}
 use Rattle.kpn_compute.specs.Filters.{filter_family}
-use Rattle.kpn_rounds.specs.Steps.{count}
+use Rattle.kpn_rounds.specs.Steps.{count, RoundStep}
 use Rattle.kpn_rounds.specs.Rounds.{made_by, rounds_family}
 use Rattle.kpn_streams.specs.Fed.{Writes}
 use Rattle.kpn_streams.specs.Functions.{words, flags, woven, merged, flagged}
@@ -105,12 +105,22 @@ FiltersKeepNothing =
     (start : Card → List ℕ) (step : Card → List ℕ → ℕ → List ℕ × ℕ) (card : Card) (ws : List ℕ)
     → Writes (filter_family start step) card (words ws ∷ []) (words (map (λ w. (step card (start card) w).1) ws) ∷ [])
 
+module _ (ports : Card → Option Signature) (start : Card → List ℕ) (step : Card → RoundStep) where
+  -- what a round writes with the local state of the start
+  abbrev pub made_at_start : Card → Signature → List ℕ → List ℕ
+  made_at_start card s inputs = (made_by s (step card) (start card) inputs).1
+
+  -- each round writes so
+  abbrev pub RoundsForget : Type 0
+  RoundsForget =
+      (card : Card) (s : Signature) (ins : List (List Token))
+      → ports card ≡ Some s → 1 ≤ length ins → length ins ≡ count s.ins
+      → Writes (rounds_family ports start step) card ins (columns s (map (made_at_start card s) (side_by_side ins)))
+
 -- rounds: the same
 abbrev pub RoundsKeepNothing : Type 0
 RoundsKeepNothing =
-    (ports : Card → Option Signature) (start : Card → List ℕ) (step : Card → List ℕ → List ℕ → List ℕ × List ℕ) (card : Card) (s : Signature) (ins : List (List Token))
-    → ports card ≡ Some s → 1 ≤ length ins → length ins ≡ count s.ins
-    → Writes (rounds_family ports start step) card ins (columns s (map (λ inputs. (made_by s (step card) (start card) inputs).1) (side_by_side ins)))
+    (ports : Card → Option Signature) (start : Card → List ℕ) (step : Card → RoundStep) → RoundsForget ports start step
 
 abbrev pub TurnsOfNone : Type 0
 TurnsOfNone = (a b : ℕ) → TakesTurns a b (woven a b)

@@ -1,13 +1,15 @@
 -- Worked networks: what the kinds compute, and start tokens in a loop.
-use Rattle.std.specs.Prelude.{true, false, [], ◌∷◌}
+use Rattle.std.specs.Prelude.{true, false, List, [], ◌∷◌}
+use Rattle.kpn_model.specs.declared.token.Token.{Token}
 use Rattle.kpn_model.specs.declared.token.Token.TheVariants.{Flag}
+use Rattle.kpn_model.specs.declared.parts.Channel.{Channel}
 use Rattle.kpn_model.specs.declared.history.End.TheVariants.{Deadlock}
 use Rattle.kpn_model.specs.declared.history.Place.TheVariants.{Stopped, Reads}
 use Rattle.kpn_model.specs.Network.{Network}
 use Rattle.kpn_model.specs.History.{Digest}
 use Rattle.kpn_standard.specs.Standard.{standard}
 use Rattle.kpn_laws.specs.Digested.{HasDigest}
-use Rattle.test_laws.specs.Building.{count, sink, copy, add, scale, merge, divides, switch, words, flags, holding, numbers, network}
+use Rattle.test_laws.specs.Building.{count, sink, copy, add, scale, merge, divides, switch, words, flags, sums_back, numbers, just_number, one_to_three, one_to_six, network}
 
 -- twice 9,223,372,036,854,775,807, and two more: sums and products wrap modulo 2^64
 abbrev pub products_wrap : Network
@@ -22,7 +24,7 @@ products_wrap_digest =
       places = Stopped ∷ Reads 0 ∷ Stopped ∷ Reads 1 ∷ Stopped ∷ [];
       steps = 2 ∷ 2 ∷ 2 ∷ 3 ∷ 2 ∷ [];
       capacities = 1 ∷ 1 ∷ 1 ∷ 1 ∷ [];
-      streams = (numbers (9223372036854775807 ∷ [])) ∷ (numbers (18446744073709551614 ∷ [])) ∷ (numbers (2 ∷ [])) ∷ (numbers (0 ∷ [])) ∷ [];
+      streams = just_number 9223372036854775807 ∷ just_number 18446744073709551614 ∷ just_number 2 ∷ just_number 0 ∷ [];
       rests = [] ∷ [] ∷ [] ∷ [] ∷ [];
       growths = [];
       entries = 11;
@@ -31,11 +33,26 @@ products_wrap_digest =
 abbrev pub ProductsWrap : Type 0
 ProductsWrap = HasDigest standard products_wrap products_wrap_digest
 
+-- from the flags to the switch, and from it to each sink
+abbrev pub around_switch : List Channel
+around_switch = flags (2, 0) (3, 1) 1 ∷ words (3, 0) (4, 0) 1 ∷ words (3, 1) (5, 0) 1 ∷ []
+
+-- whether each number from one to six is even
+abbrev pub evenness : List Token
+evenness = Flag false ∷ Flag true ∷ Flag false ∷ Flag true ∷ Flag false ∷ Flag true ∷ []
+
+-- the odd and the even numbers of them
+abbrev pub odd_ones : List Token
+odd_ones = numbers (1 ∷ 3 ∷ 5 ∷ [])
+
+abbrev pub even_ones : List Token
+even_ones = numbers (2 ∷ 4 ∷ 6 ∷ [])
+
 -- a switch sends odd numbers one way and even ones the other, as flags say
 abbrev pub switched_by_flags : Network
 switched_by_flags =
     network (count 1 6 ∷ copy ∷ divides 2 ∷ switch ∷ sink 3 ∷ sink 3 ∷ [])
-    (words (0, 0) (1, 0) 1 ∷ words (1, 0) (2, 0) 1 ∷ words (1, 1) (3, 0) 1 ∷ flags (2, 0) (3, 1) 1 ∷ words (3, 0) (4, 0) 1 ∷ words (3, 1) (5, 0) 1 ∷ [])
+    (words (0, 0) (1, 0) 1 ∷ words (1, 0) (2, 0) 1 ∷ words (1, 1) (3, 0) 1 ∷ around_switch)
 
 abbrev pub switched_by_flags_digest : Digest
 switched_by_flags_digest =
@@ -44,7 +61,7 @@ switched_by_flags_digest =
       places = Stopped ∷ Reads 0 ∷ Reads 1 ∷ Reads 3 ∷ Stopped ∷ Stopped ∷ [];
       steps = 7 ∷ 18 ∷ 12 ∷ 18 ∷ 4 ∷ 4 ∷ [];
       capacities = 1 ∷ 1 ∷ 1 ∷ 1 ∷ 1 ∷ 1 ∷ [];
-      streams = (numbers (1 ∷ 2 ∷ 3 ∷ 4 ∷ 5 ∷ 6 ∷ [])) ∷ (numbers (1 ∷ 2 ∷ 3 ∷ 4 ∷ 5 ∷ 6 ∷ [])) ∷ (numbers (1 ∷ 2 ∷ 3 ∷ 4 ∷ 5 ∷ 6 ∷ [])) ∷ (Flag false ∷ Flag true ∷ Flag false ∷ Flag true ∷ Flag false ∷ Flag true ∷ []) ∷ (numbers (1 ∷ 3 ∷ 5 ∷ [])) ∷ (numbers (2 ∷ 4 ∷ 6 ∷ [])) ∷ [];
+      streams = one_to_six ∷ one_to_six ∷ one_to_six ∷ evenness ∷ odd_ones ∷ even_ones ∷ [];
       rests = [] ∷ [] ∷ [] ∷ [] ∷ [] ∷ [] ∷ [];
       growths = [];
       entries = 63;
@@ -53,11 +70,15 @@ switched_by_flags_digest =
 abbrev pub SwitchedByFlags : Type 0
 SwitchedByFlags = HasDigest standard switched_by_flags switched_by_flags_digest
 
+-- the sums of one to three
+abbrev pub one_three_six : List Token
+one_three_six = numbers (1 ∷ 3 ∷ 6 ∷ [])
+
 -- running sums of 1, 2, 3: each sum comes back through a channel that begins with 0
 abbrev pub running_sums : Network
 running_sums =
     network (count 1 3 ∷ add ∷ copy ∷ sink 3 ∷ [])
-    (words (0, 0) (1, 0) 1 ∷ holding (numbers (0 ∷ [])) (words (2, 0) (1, 1) 1) ∷ words (1, 0) (2, 0) 1 ∷ words (2, 1) (3, 0) 1 ∷ [])
+    (words (0, 0) (1, 0) 1 ∷ sums_back ∷ words (1, 0) (2, 0) 1 ∷ words (2, 1) (3, 0) 1 ∷ [])
 
 abbrev pub running_sums_digest : Digest
 running_sums_digest =
@@ -66,7 +87,7 @@ running_sums_digest =
       places = Stopped ∷ Reads 0 ∷ Reads 2 ∷ Stopped ∷ [];
       steps = 4 ∷ 9 ∷ 9 ∷ 4 ∷ [];
       capacities = 1 ∷ 1 ∷ 1 ∷ 1 ∷ [];
-      streams = (numbers (1 ∷ 2 ∷ 3 ∷ [])) ∷ (numbers (0 ∷ 1 ∷ 3 ∷ 6 ∷ [])) ∷ (numbers (1 ∷ 3 ∷ 6 ∷ [])) ∷ (numbers (1 ∷ 3 ∷ 6 ∷ [])) ∷ [];
+      streams = one_to_three ∷ (numbers (0 ∷ 1 ∷ 3 ∷ 6 ∷ [])) ∷ one_three_six ∷ one_three_six ∷ [];
       rests = [] ∷ (numbers (6 ∷ [])) ∷ [] ∷ [] ∷ [];
       growths = [];
       entries = 26;

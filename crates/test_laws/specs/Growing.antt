@@ -6,7 +6,7 @@ use Rattle.kpn_model.specs.Network.{Network}
 use Rattle.kpn_model.specs.History.{Digest}
 use Rattle.kpn_standard.specs.Standard.{standard}
 use Rattle.kpn_laws.specs.Digested.{HasDigest}
-use Rattle.test_laws.specs.Building.{count, sink, copy, weave, words, numbers, network}
+use Rattle.test_laws.specs.Building.{count, sink, copy, weave, words, numbers, one_to_three, one_to_three_twice, network}
 
 -- the sink stops after one token: the channel grows by one, so that the counter stops too
 abbrev pub counter_outlives_sink : Network
@@ -151,7 +151,7 @@ parks_case_digest =
       places = Stopped ∷ Reads 0 ∷ Reads 1 ∷ Stopped ∷ [];
       steps = 4 ∷ 9 ∷ 12 ∷ 7 ∷ [];
       capacities = 1 ∷ 1 ∷ 2 ∷ 1 ∷ [];
-      streams = (numbers (1 ∷ 2 ∷ 3 ∷ [])) ∷ (numbers (1 ∷ 2 ∷ 3 ∷ [])) ∷ (numbers (1 ∷ 2 ∷ 3 ∷ [])) ∷ (numbers (1 ∷ 2 ∷ 3 ∷ 1 ∷ 2 ∷ 3 ∷ [])) ∷ [];
+      streams = one_to_three ∷ one_to_three ∷ one_to_three ∷ one_to_three_twice ∷ [];
       rests = [] ∷ [] ∷ [] ∷ [] ∷ [];
       growths = (2, 2) ∷ [];
       entries = 33;

@@ -10,13 +10,23 @@ use Rattle.kpn_standard.specs.Signatures.{named}
 use Rattle.kpn_model.specs.Network.{Network, resized}
 use Rattle.kpn_model.specs.History.{Digest}
 use Rattle.kpn_net.specs.Sketched.{net_of}
-use Rattle.test_laws.specs.Building.{numbers}
+use Rattle.test_laws.specs.Building.{one_to_three, one_to_three_twice}
 
 abbrev pub process : List ℕ → List ℕ → List ℤ → ProcessSketch
 process name kind args = record { name = name; kind = kind; args = args }
 
 abbrev pub channel : List ℕ → List ℕ → ℤ → List ℕ → ℤ → ChannelSketch
-channel name from out to input = record { name = name; from = from; to = to; out = out; input = input; sort = Words; capacity = pos 1; tokens = [] }
+channel name from out to input =
+    record {
+      name = name;
+      from = from;
+      to = to;
+      out = out;
+      input = input;
+      sort = Words;
+      capacity = pos 1;
+      tokens = [];
+    }
 
 abbrev pub source : ProcessSketch
 source = process (codes "src") (codes "count") (pos 1 ∷ pos 3 ∷ [])
@@ -56,7 +66,7 @@ parks_digest =
       places = Stopped ∷ Reads 0 ∷ Reads 1 ∷ Stopped ∷ [];
       steps = 4 ∷ 9 ∷ 12 ∷ 7 ∷ [];
       capacities = 1 ∷ 1 ∷ 2 ∷ 1 ∷ [];
-      streams = (numbers (1 ∷ 2 ∷ 3 ∷ [])) ∷ (numbers (1 ∷ 2 ∷ 3 ∷ [])) ∷ (numbers (1 ∷ 2 ∷ 3 ∷ [])) ∷ (numbers (1 ∷ 2 ∷ 3 ∷ 1 ∷ 2 ∷ 3 ∷ [])) ∷ [];
+      streams = one_to_three ∷ one_to_three ∷ one_to_three ∷ one_to_three_twice ∷ [];
       rests = [] ∷ [] ∷ [] ∷ [] ∷ [];
       growths = (2, 2) ∷ [];
       entries = 33;

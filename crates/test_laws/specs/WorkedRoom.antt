@@ -15,13 +15,39 @@ process_named name p = record p { name = name }
 abbrev pub with_name : List ℕ → Channel → Channel
 with_name name c = record c { name = name }
 
+-- the processes of the case with a counter of five
+abbrev pub source_of_five : Process
+source_of_five = process_named (codes "src") (count 1 5)
+
+abbrev pub named_copy : Process
+named_copy = process_named (codes "cp") copy
+
+abbrev pub named_weave : Process
+named_weave = process_named (codes "wv") (weave 3 3)
+
+abbrev pub sink_of_eight : Process
+sink_of_eight = process_named (codes "snk") (sink 8)
+
+-- and its channels
+abbrev pub source_to_copier : Channel
+source_to_copier = with_name (codes "c0") (words (0, 0) (1, 0) 1)
+
+abbrev pub copier_to_weaver : Channel
+copier_to_weaver = with_name (codes "c1") (words (1, 0) (2, 0) 1)
+
+abbrev pub copier_to_weaver_again : Channel
+copier_to_weaver_again = with_name (codes "c2") (words (1, 1) (2, 1) 1)
+
+abbrev pub weaver_to_sink : Channel
+weaver_to_sink = with_name (codes "c3") (words (2, 0) (3, 0) 1)
+
 -- Parks's case with a counter of five: when the counter and the copy are both blocked, room for one more
 -- token of the copy is enough; more room for the counter does not help
 abbrev pub longer_parks_case : Network
 longer_parks_case =
     network
-    (process_named (codes "src") (count 1 5) ∷ process_named (codes "cp") copy ∷ process_named (codes "wv") (weave 3 3) ∷ process_named (codes "snk") (sink 8) ∷ [])
-    (with_name (codes "c0") (words (0, 0) (1, 0) 1) ∷ with_name (codes "c1") (words (1, 0) (2, 0) 1) ∷ with_name (codes "c2") (words (1, 1) (2, 1) 1) ∷ with_name (codes "c3") (words (2, 0) (3, 0) 1) ∷ [])
+    (source_of_five ∷ named_copy ∷ named_weave ∷ sink_of_eight ∷ [])
+    (source_to_copier ∷ copier_to_weaver ∷ copier_to_weaver_again ∷ weaver_to_sink ∷ [])
 
 abbrev pub TwoPlacesSuffice : Type 0
 TwoPlacesSuffice = (s : EndsWithin standard longer_parks_case 2) × (length s.history ≡ 46)

@@ -1,7 +1,7 @@
 //! Runs of networks of flips.
-ghost use Rattle.std.specs.Prelude.{◌≡◌, ◌<◌, All, IsSome, IfOk, IfSome, OnErr, Some, length, option_map, slice_get};
+ghost use Rattle.std.specs.Prelude.{◌≡◌, ◌<◌, All, IsSome, IfOk, IfSome, OnErr, Some, length, slice_get};
 ghost use Rattle.kpn_machine.specs.Opening.{cards_of};
-ghost use Rattle.kpn_execute.specs.Execution.{Executes};
+ghost use Rattle.test_programs.specs.Flips.{ExecutesFlips};
 ghost use Rattle.example_own_kinds.specs.Flip.{ports, flip, flips};
 
 use example_own_kinds::{FlipBody, Flips, line_of};
@@ -34,7 +34,7 @@ pub(crate) fn run_flips<S: Sink, R: Wait + Clock + Threads + Sync>(
     requires signed { All (λ card. IsSome (ports card)) request.cards.now }
     requires cards { IfSome request.net (λ n. request.cards.now ≡ cards_of n.processes) }
     requires some { IsSome request.net }
-    ensures ok { IfOk result (λ status. IfSome request.entry.net (λ n. Executes flips n 2 (option_map (λ s. s.now) request.entry.show) (S.seen sink.old) (S.seen sink.new) status)) }
+    ensures ok { IfOk result (ExecutesFlips request.entry.net request.entry.show (S.seen sink.old) (S.seen sink.new)) }
     ensures err { OnErr result (sink.new ≡ sink.old) }
 {
     let FlipsRequest { cards, net, show } = request;

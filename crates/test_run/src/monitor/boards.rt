@@ -1,11 +1,12 @@
 //! Boards: the greatest number of watchers, and what they show of histories worked out by hand.
 ghost use Rattle.std.specs.Prelude.{◌≡◌, ◌+◌, ◌<◌, ◌≤◌, ◌++◌, ◌∷◌, [], length};
 ghost use Rattle.kpn_model.specs.declared.history.Deed.TheVariants.{Put, Took, Stopped};
-ghost use Rattle.kpn_model.specs.declared.history.Entry.TheVariants.{Did, Grew};
+ghost use Rattle.kpn_model.specs.declared.history.Entry.TheVariants.{Did};
 ghost use Rattle.kpn_model.specs.declared.token.Token.TheVariants.{Word};
 ghost use Rattle.kpn_watch.specs.Phases.{phase_of};
 ghost use Rattle.kpn_watch.specs.Shown.{word_of};
 ghost use Rattle.kpn_watch.specs.declared.progress.Phase.TheVariants.{Memory, Running, Terminated};
+ghost use Rattle.test_run.specs.Boards.{HasNothingOf, HasPublished, three_put, two_put};
 
 use crate::checks::same;
 use kpn_model::{Deed, End, Entry, Token};
@@ -69,7 +70,7 @@ fn kept_looks<H: Keeper>(
     watcher: &mut Watcher,
     kept: &mut H,
 ) -> [Progress; 3]
-    requires publisher { (publisher.old.board ≡ board.now) × (publisher.old.entries ≡ []) × (publisher.old.phase ≡ Phase.Running) }
+    requires publisher { (publisher.old.board ≡ board.now) × HasPublished [] Phase.Running publisher.old }
     requires watcher { watcher.old.board ≡ board.now }
     requires none { H.entries kept.old ≡ [] }
     requires room { 3 ≤ H.room kept.old }
@@ -160,16 +161,16 @@ struct Display {
 fn worked_words()
     ensures one { word_of (Did 0 (Put 0 (Word 1)) ∷ []) Running ≡ 33554432 }
     ensures two { word_of (Did 0 (Put 0 (Word 1)) ∷ Did 1 (Took 0 (Word 1)) ∷ []) Running ≡ 67108864 }
-    ensures three { word_of (Did 0 (Put 0 (Word 1)) ∷ Did 1 (Took 0 (Word 1)) ∷ Did 0 (Put 0 (Word 2)) ∷ []) Running ≡ 100663296 }
-    ensures four { word_of (Did 0 (Put 0 (Word 1)) ∷ Did 1 (Took 0 (Word 1)) ∷ Did 0 (Put 0 (Word 2)) ∷ Did 1 Stopped ∷ []) Running ≡ 134217728 }
-    ensures refused { word_of (Did 0 (Put 0 (Word 1)) ∷ Did 1 (Took 0 (Word 1)) ∷ Did 0 (Put 0 (Word 2)) ∷ Did 1 Stopped ∷ []) Memory ≡ 134217733 }
-    ensures six { word_of (Did 0 (Put 0 (Word 1)) ∷ Did 1 (Took 0 (Word 1)) ∷ Did 0 (Put 0 (Word 2)) ∷ Did 1 Stopped ∷ Grew 0 2 ∷ Did 0 (Put 0 (Word 3)) ∷ []) Running ≡ 201326600 }
-    ensures seven { word_of (Did 0 (Put 0 (Word 1)) ∷ Did 1 (Took 0 (Word 1)) ∷ Did 0 (Put 0 (Word 2)) ∷ Did 1 Stopped ∷ Grew 0 2 ∷ Did 0 (Put 0 (Word 3)) ∷ Did 0 Stopped ∷ []) Terminated ≡ 234881033 }
+    ensures three { word_of (two_put []) Running ≡ 100663296 }
+    ensures four { word_of (two_put (Did 1 Stopped ∷ [])) Running ≡ 134217728 }
+    ensures refused { word_of (two_put (Did 1 Stopped ∷ [])) Memory ≡ 134217733 }
+    ensures six { word_of (three_put []) Running ≡ 201326600 }
+    ensures seven { word_of (three_put (Did 0 Stopped ∷ [])) Terminated ≡ 234881033 }
 {}
 
 impl Display {
     fn new<R: Abort>(rt: &R, alloc: Global) -> Display
-        ensures { (result.publisher.entries ≡ result.history.items) × (result.publisher.phase ≡ Phase.Running) × (result.history.items ≡ []) }
+        ensures { HasNothingOf result.history.items result.publisher }
     {
         let (board, publisher) = Board::new(alloc).expect(rt, "no memory");
         let mut publisher = CountingPublisher::new(publisher);
@@ -190,9 +191,9 @@ impl Display {
     }
 
     fn append<R: Abort>(&mut self, rt: &R, more: &[Entry], ended: Option<End>, due: Progress)
-        requires shown { (self.old.publisher.entries ≡ self.old.history.items) × (self.old.publisher.phase ≡ Phase.Running) }
+        requires shown { HasPublished self.old.history.items Phase.Running self.old.publisher }
         requires short { length self.old.history.items + length more.now < 100 }
-        ensures shown { (self.new.publisher.entries ≡ self.new.history.items) × (self.new.publisher.phase ≡ phase_of ended) }
+        ensures shown { HasPublished self.new.history.items (phase_of ended) self.new.publisher }
         ensures history { self.new.history.items ≡ self.old.history.items ++ more.now }
     {
         self.history.extend_from_slice(more).expect(rt, "no memory");

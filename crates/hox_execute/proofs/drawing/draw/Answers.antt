@@ -1,5 +1,5 @@
 -- The picture is written, or what is asked for is refused.
-use Rattle.std.proofs.Common.{◌≡◌, List, ℕ, Bool, [], is_some, map, Ok, Err, string_bytes, refl, ◌∙◌, ◌≤◌, ap, rules, subst, sym}
+use Rattle.std.proofs.Common.{◌≡◌, List, ℕ, Bool, [], is_some, map, Ok, Err, string_bytes, refl, ◌∙◌, rules, subst}
 use Rattle.kpn_model.specs.Network.{family_of}
 use Rattle.hox_network.specs.Preparing.{GivesNet}
 use Rattle.hox_draw.specs.Drawing.{GivesPicture}

@@ -1,5 +1,5 @@
 -- What is told is written, or what is asked for is refused.
-use Rattle.std.proofs.Common.{◌≡◌, List, ℕ, Err, map, refl, ◌∙◌, ◌≤◌, rules, subst, sym}
+use Rattle.std.proofs.Common.{◌≡◌, List, ℕ, Err, map, refl, rules, subst}
 use Rattle.kpn_model.specs.Network.{family_of}
 use Rattle.hox_network.specs.Preparing.{GivesNet}
 use Rattle.hox_run.specs.Serving.{GivesRun}

@@ -2,11 +2,10 @@
 use Rattle.std.proofs.Common.{◌≡◌, ap, map, refl, subst, ◌∙◌}
 use Rattle.std.specs.List.{AllZip, filter}
 use Rattle.kpn_model.specs.Network.{family_of}
-use Rattle.hox_stream.specs.Views.{outs}
 use Rattle.hox_format.specs.Resuming.{left_of, resumed_has_failed}
 use Rattle.hox_files.specs.Pairs.{groups, is_alone}
 use Rattle.hox_execute.specs.Reports.{first_rate}
-use Rattle.hox_execute.specs.Streaming.{IsCreated, IsOpened, IsTabled, RunsBetween, opening_of, rate_in}
+use Rattle.hox_execute.specs.Streaming.{IsCreated, IsOpened, IsTabled, opening_of, rate_in}
 use Rattle.hox_execute.proofs.Sources.{all_created, all_opened, all_tabled, same_outs, same_rate, same_sources, seen_in, seen_table}
 use Rattle.hox_execute.proofs.streaming.run_between.Goals as goal
 

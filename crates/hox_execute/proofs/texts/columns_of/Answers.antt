@@ -1,5 +1,5 @@
 -- All columns.
-use Rattle.std.proofs.Common.{◌≡◌, ◌≤◌, ◌++◌, List, length, map, min, ap, sym, ◌∙◌, arith}
+use Rattle.std.proofs.Common.{◌≤◌, ◌++◌, List, length, map, min, ap, sym, ◌∙◌, arith}
 use Rattle.std.proofs.lemmas.List.{append-nil}
 use Rattle.kpn_tokens.specs.Tables.{ColumnView, column_of}
 use Rattle.hox_execute.proofs.Grouped.{columns_end}

@@ -1,5 +1,5 @@
 -- One pair more.
-use Rattle.std.proofs.Common.{◌≡◌, ◌≤◌, ◌++◌, ◌∷◌, [], if◌then◌else◌, Bool, true, false, List, Result, Ok, Err, is_err, is_ok, drop, length, ap, refl, sym, ◌∙◌, arith}
+use Rattle.std.proofs.Common.{◌≡◌, ◌≤◌, ◌++◌, ◌∷◌, [], if◌then◌else◌, true, false, List, Result, Ok, Err, is_err, is_ok, drop, length, ap, refl, sym, ◌∙◌, arith}
 use Rattle.std.proofs.lemmas.List.{length-map}
 use Rattle.hox_files.specs.Pairs.{IsPair, parts_from}
 use Rattle.hox_files.proofs.Firsts.{texts_of}

@@ -1,5 +1,5 @@
 -- What was read to where the records begin is the front of the file.
-use Rattle.std.proofs.Common.{◌≡◌, ◌≤◌, List, drop, length, Option, Some, IfSome, Ok, Err, ap, rules, subst, ◌∙◌, arith}
+use Rattle.std.proofs.Common.{◌≡◌, ◌≤◌, drop, length, Option, Some, Ok, Err, ap, rules, subst, ◌∙◌, arith}
 use Rattle.std.proofs.lemmas.Grind.{common_steps}
 use Rattle.hox_format.specs.declared.records.Records.{Records}
 use Rattle.hox_format.specs.Records.{IsRecordsResult, IsWithin, records_bytes}

@@ -1,5 +1,4 @@
-use Rattle.std.proofs.Common.{◌≡◌, ◌∙◌, List, map, refl, sym, ap, subst}
-use Rattle.hox_formula.specs.declared.symbol.Symbol.{Symbol}
+use Rattle.std.proofs.Common.{◌≡◌, ◌∙◌, List, map, ap}
 use Rattle.hox_formula.specs.declared.left_side.LeftSide.{LeftSide}
 use Rattle.hox_formula.specs.Parsing.{naming}
 use Rattle.hox_formula.specs.Formulas.{target_of}

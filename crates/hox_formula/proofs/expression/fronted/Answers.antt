@@ -1,4 +1,4 @@
-use Rattle.std.proofs.Common.{◌≡◌, sym, subst}
+use Rattle.std.proofs.Common.{sym, subst}
 use Rattle.std.proofs.lemmas.Result.{IfOk-weaker}
 use Rattle.hox_formula.specs.declared.symbol.Mark.{Mark}
 use Rattle.hox_formula.specs.Expressions.{Constant}

@@ -1,8 +1,8 @@
-use Rattle.std.proofs.Common.{◌≡◌, refl, sym, subst}
+use Rattle.std.proofs.Common.{sym, subst}
 use Rattle.std.proofs.lemmas.Result.{IfOk-weaker}
-use Rattle.kpn_formula.specs.declared.instruction.Operation.TheVariants.{Subtract, IsLess}
+use Rattle.kpn_formula.specs.declared.instruction.Operation.TheVariants.{Subtract}
 use Rattle.hox_formula.specs.declared.symbol.Mark.{Mark}
-use Rattle.hox_formula.specs.Expressions.{Expression, Negation, Applied}
+use Rattle.hox_formula.specs.Expressions.{Negation, Applied}
 use Rattle.hox_formula.specs.Grammar.{joined}
 use Rattle.hox_formula.specs.Fragments.{Means}
 use Rattle.hox_formula.proofs.expression.join.Goals as goal

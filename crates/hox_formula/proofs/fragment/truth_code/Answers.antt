@@ -1,14 +1,11 @@
-use Rattle.std.proofs.Common.{◌≡◌, ◌∙◌, ℕ, List, [], ◌∷◌, ◌++◌, Option, Some, None, IfSome, refl, sym, ap}
+use Rattle.std.proofs.Common.{◌∙◌, ℕ, [], ◌∷◌, refl, sym, ap}
 use Rattle.std.proofs.lemmas.Result.{IfOk-weaker}
-use Rattle.kpn_formula.specs.declared.instruction.Instruction.{Instruction}
 use Rattle.kpn_formula.specs.declared.instruction.Instruction.TheVariants.{Not}
-use Rattle.kpn_formula.specs.Programs.{Working, executed, run}
-use Rattle.kpn_formula.specs.Operations.{applied}
-use Rattle.hox_formula.specs.declared.fragment.Fragment.{Fragment}
-use Rattle.hox_formula.specs.Expressions.{Expression, Constant, Negation, Size, Both, Either, Applied, Choice, truth, value}
-use Rattle.hox_formula.specs.Fragments.{working, Computes, Means}
-use Rattle.hox_formula.proofs.Codes.{after_one, after_two, applied_code, short_code, number_code, chosen_code}
-use Rattle.hox_formula.proofs.Truth.{flag_truth, both_is, either_is}
+use Rattle.kpn_formula.specs.Programs.{run}
+use Rattle.hox_formula.specs.Expressions.{Negation}
+use Rattle.hox_formula.specs.Fragments.{working}
+use Rattle.hox_formula.proofs.Codes.{after_one}
+use Rattle.hox_formula.proofs.Truth.{flag_truth}
 use Rattle.hox_formula.proofs.fragment.truth_code.Goals as goal
 
 pub returns-then-operand : goal.returns-then-operand

@@ -1,6 +1,6 @@
-use Rattle.std.proofs.Common.{◌≡◌, ◌∙◌, ℕ, List, [], ◌∷◌, ◌++◌, Option, Some, None, length, refl, sym, ap, subst, arith}
-use Rattle.hox_formula.specs.Lexing.{place_in, texts}
-use Rattle.hox_formula.proofs.Lexed.{pair_spells, single_spells, blank_skipped, known_name, added_name, word_next, nothing_read, one_more, all_read, empty_bytes}
+use Rattle.std.proofs.Common.{◌∙◌, [], sym}
+use Rattle.hox_formula.specs.Lexing.{texts}
+use Rattle.hox_formula.proofs.Lexed.{all_read, empty_bytes}
 use Rattle.hox_formula.proofs.lexing.lex.Goals as goal
 
 pub returns : goal.returns

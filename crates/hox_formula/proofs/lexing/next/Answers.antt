@@ -1,6 +1,6 @@
-use Rattle.std.proofs.Common.{◌≡◌, ◌∙◌, ℕ, List, [], ◌∷◌, ◌++◌, Option, Some, None, length, refl, sym, ap, subst, arith}
-use Rattle.hox_formula.specs.Lexing.{place_in, texts}
-use Rattle.hox_formula.proofs.Lexed.{pair_spells, single_spells, blank_skipped, known_name, added_name, word_next, nothing_read, one_more, all_read}
+use Rattle.std.proofs.Common.{◌∙◌, [], sym}
+use Rattle.hox_formula.specs.Lexing.{texts}
+use Rattle.hox_formula.proofs.Lexed.{word_next}
 use Rattle.hox_formula.proofs.lexing.next.Goals as goal
 
 pub returns-then-begins_with_word_byte : goal.returns-then-begins_with_word_byte

@@ -1,5 +1,5 @@
 -- The states are those of the targets, and so many ports are named.
-use Rattle.std.proofs.Common.{◌≡◌, ◌<◌, ◌∙◌, sym, ℕ, Bool, zero, suc, nat_lt, arith}
+use Rattle.std.proofs.Common.{◌≡◌, ◌∙◌, sym, ℕ, Bool, zero, suc, nat_lt, arith}
 use Rattle.hox_formula.specs.Formulas.{AreFirst}
 use Rattle.hox_formula.proofs.naming.names_of.Goals as goal
 

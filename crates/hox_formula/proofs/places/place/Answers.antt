@@ -1,4 +1,4 @@
-use Rattle.std.proofs.Common.{◌≡◌, ◌∙◌, ℕ, ◌==◌, List, Option, sym, ap}
+use Rattle.std.proofs.Common.{◌∙◌, ℕ, ◌==◌, List, sym, ap}
 use Rattle.std.specs.Prelude.{position}
 use Rattle.hox_formula.specs.declared.symbol.Symbol.{Symbol}
 use Rattle.hox_formula.specs.Grammar.{place_of}

@@ -1,10 +1,5 @@
-use Rattle.std.proofs.Common.{◌≡◌, ◌∙◌, ℕ, ◌==◌, true, List, [], ◌∷◌, length, refl, sym, ap, subst, arith}
-use Rattle.hox_formula.specs.declared.symbol.Symbol.{Symbol}
-use Rattle.hox_formula.specs.declared.symbol.Symbol.TheVariants.{Output, State}
-use Rattle.hox_formula.specs.declared.left_side.LeftSide.{LeftSide}
-use Rattle.hox_formula.specs.Parsing.{naming}
-use Rattle.hox_formula.specs.Collecting.{HeadRead, LinesRead}
-use Rattle.hox_formula.proofs.Collected.{output_read, state_read, started_read, below_read, head_along, line_read, no_lines, lines_read, empty_list}
+use Rattle.std.proofs.Common.{[]}
+use Rattle.hox_formula.proofs.Collected.{state_read, started_read, below_read}
 use Rattle.hox_formula.proofs.reading.read_start.Goals as goal
 
 pub returns-in_default : goal.returns-in_default

@@ -1,7 +1,6 @@
 -- The sketch is that of the text, as it is meant.
-use Rattle.std.proofs.Common.{rules, refl, arith, subst}
+use Rattle.std.proofs.Common.{rules, refl, arith}
 use Rattle.kpn_sketch.specs.declared.fault.NetFault.TheVariants.{Input, Memory}
-use Rattle.hox_handle.specs.Opening.{OpensBetween}
 use Rattle.hox_handle.proofs.Opened.{opens_between, unopened, unread}
 use Rattle.hox_handle.proofs.opening.open_between.Goals as goal
 

@@ -19,5 +19,5 @@ returns-then-len-most-clause-fault c =
     let says : Say file.layout (channel_of net ch).sort file.bytes tokens = rw (c.sort_of-sort.ensures, c.as_slice.ensures) at c.in-Ok.ensures.says in
     let most : c.min-most.result ≡ most_in net = c.min-most.ensures in
     let more : c.min-most.result < length tokens = search rules in
-    let fault : IsBytesFault file.layout (channel_of net ch).sort file.bytes (most_in net) (TooMany c.min-most.result) = (most, tokens, begins says, rw most at more) in
+    let fault : IsBytesFault file.layout (channel_of net ch).sort file.bytes (most_in net) (TooMany c.min-most.result) = (most, (tokens, begins says, rw most at more)) in
     of_bytes net file ch (TooMany c.min-most.result) named fault

@@ -1,6 +1,5 @@
 -- A record is taken and then others, or nothing is fed but the source is read on, or the input ends.
-use Rattle.std.proofs.Common.{◌≡◌, false, refl, sym, ◌∙◌, rules, arith}
-use Rattle.std.proofs.lemmas.Grind.{common_steps}
+use Rattle.std.proofs.Common.{◌≡◌, false, refl, sym, ◌∙◌, rules}
 use Rattle.kpn_model.specs.Network.{family_of}
 use Rattle.hox_stream.proofs.Flowed.{pours_both, pours_ended, pours_none, pours_read}
 use Rattle.hox_stream.proofs.Reading.{never_wants, not_read_both, read_on, wants, wants_not}

@@ -15,17 +15,17 @@ loop-machine-preserved-then-stay g c =
     let kinds = family_of g.B.Kinds.Kinds.start g.B.Kinds.Kinds.answer_of in
     let i = c.loop-machine.invariant in
     let st = c.stay.ensures.stays c.if-stay.true in
-    let first : slice_get c.loop-machine.places.tasks 0 ≡ Some st.0 = ap (λ (l : List Input). slice_get l 0) st.4 in
+    let first : slice_get c.loop-machine.places.tasks 0 ≡ Some st.0 = ap (λ (l : List Input). slice_get l 0) st.4.0 in
     let out : IsOut c.loop-machine.machine st.0 = search rules in
     let one = gave_on_again kinds g.B.Kinds.Kinds.admits c.loop-machine.machine c.loop-machine.places c.stay.new.machine c.stay.new.self st.0 st.1 st.2
-    (st.4 ∙ ap (λ (l : List Input). st.0 ∷ l) (sym (ap (λ (q : Placed). q.tasks) st.5)))
-    st.6
-    (ap (λ (q : Placed). q.outcomes) st.5)
-    (ap (λ (q : Placed). q.again) st.5)
+    (st.4.0 ∙ ap (λ (l : List Input). st.0 ∷ l) (sym (ap (λ (q : Placed). q.tasks) st.4.1)))
+    st.4.2
+    (ap (λ (q : Placed). q.outcomes) st.4.1)
+    (ap (λ (q : Placed). q.again) st.4.1)
     c.assure_faithful.ensures.faithful
     out
     c.assure_faithful-then-stay.ensures.faithful
-    st.7 in
+    st.4.3 in
     let next = gives_first kinds g.B.Kinds.Kinds.admits c.args.machine.now c.args.places.now.tasks c.loop-machine.machine c.loop-machine.places c.args.places.now.called c.stay.new.machine c.stay.new.self
     (record { machine = i.machine; network = i.network; committed = i.committed; taken = i.taken; called_is = i.called; count = i.count }) one in
     record {

@@ -1,8 +1,5 @@
 -- Each fact is a field of what the report at an end says.
-use Rattle.std.specs.Prelude.{IfOk}
 use Rattle.std.proofs.lemmas.Result.{IfOk-weaker}
-use Rattle.kpn_model.specs.Network.{family_of}
-use Rattle.kpn_run.specs.Reports.{IsReportOf}
 use Rattle.kpn_run.proofs.reporting.report.Goals as goal
 
 pub returns-clause-end : goal.returns-clause-end

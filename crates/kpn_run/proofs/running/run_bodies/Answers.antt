@@ -1,9 +1,8 @@
 -- The run is one of this network, whose machine was opened; the laws are told of what its machine left.
-use Rattle.std.proofs.Common.{◌∙◌, ◌≡◌, Err, ap, rules, subst}
+use Rattle.std.proofs.Common.{◌∙◌, ◌≡◌, Err, rules, subst}
 use Rattle.kpn_model.specs.Network.{Network}
 use Rattle.kpn_model.specs.Families.{family}
-use Rattle.kpn_machine.specs.MachineView.{MachineView}
-use Rattle.kpn_run.specs.Runs.{IsFinishedRun, KeepsLaws}
+use Rattle.kpn_run.specs.Runs.{IsFinishedRun}
 use Rattle.kpn_run.proofs.Refusals.{opened_back}
 use Rattle.kpn_run.proofs.running.run_bodies.Goals as goal
 

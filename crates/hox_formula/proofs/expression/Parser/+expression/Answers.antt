@@ -1,10 +1,10 @@
-use Rattle.std.proofs.Common.{◌≡◌, ◌∙◌, ℕ, List, ◌∷◌, sym, ap, subst, arith}
+use Rattle.std.proofs.Common.{◌∙◌, ◌∷◌, sym, ap, subst}
 use Rattle.std.proofs.lemmas.Result.{IfOk-weaker}
 use Rattle.hox_formula.specs.declared.symbol.Mark.{Mark}
 use Rattle.hox_formula.specs.declared.symbol.Symbol.{Symbol}
-use Rattle.hox_formula.specs.Grammar.{place_of, sign}
+use Rattle.hox_formula.specs.Grammar.{sign}
 use Rattle.hox_formula.specs.Parsing.{naming, Parsed}
-use Rattle.hox_formula.proofs.Parsed.{parsed_number, parsed_name, parsed_along, parsed_tighter, parsed_between, parsed_choice, parsed_front, parsed_nested, parsed_absolute, parsed_call}
+use Rattle.hox_formula.proofs.Parsed.{parsed_number, parsed_name, parsed_tighter, parsed_between, parsed_choice, parsed_front, parsed_nested, parsed_absolute, parsed_call}
 use Rattle.hox_formula.proofs.expression.Parser.+expression.Goals as goal
 
 pub absolute-returns : goal.absolute-returns

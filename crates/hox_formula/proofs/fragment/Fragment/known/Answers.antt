@@ -1,14 +1,6 @@
-use Rattle.std.proofs.Common.{◌≡◌, ◌∙◌, ℕ, List, [], ◌∷◌, ◌++◌, Option, Some, None, IfSome, refl, sym, ap}
-use Rattle.std.proofs.lemmas.Result.{IfOk-weaker}
-use Rattle.kpn_formula.specs.declared.instruction.Instruction.{Instruction}
-use Rattle.kpn_formula.specs.declared.instruction.Instruction.TheVariants.{Not}
-use Rattle.kpn_formula.specs.Programs.{Working, executed, run}
-use Rattle.kpn_formula.specs.Operations.{applied}
+use Rattle.std.proofs.Common.{[]}
 use Rattle.hox_formula.specs.declared.fragment.Fragment.{Fragment}
-use Rattle.hox_formula.specs.Expressions.{Expression, Constant, Negation, Size, Both, Either, Applied, Choice, truth, value}
-use Rattle.hox_formula.specs.Fragments.{working, Computes, Means}
-use Rattle.hox_formula.proofs.Codes.{after_one, after_two, applied_code, short_code, number_code, chosen_code, known_number}
-use Rattle.hox_formula.proofs.Truth.{flag_truth, both_is, either_is}
+use Rattle.hox_formula.proofs.Codes.{number_code, known_number}
 use Rattle.hox_formula.proofs.fragment.Fragment.known.Goals as goal
 
 pub returns : goal.returns

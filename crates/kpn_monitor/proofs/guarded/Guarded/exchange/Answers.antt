@@ -87,10 +87,12 @@ returns-in-None g c =
         c.give-refused.new.machine,
         c.give-refused.new.self.tasks,
         dealt.deals.out.0,
-        dealt.deals.out.1,
-        rw (← c.self.view_is, dealt.rest.1) all.goes_on,
-        rw (← c.self.view_is, dealt.rest.1) all.ended,
-        dealt.deals.out.2,
+        (
+          dealt.deals.out.1,
+          rw (← c.self.view_is, dealt.rest.1) all.goes_on,
+          rw (← c.self.view_is, dealt.rest.1) all.ended,
+          dealt.deals.out.2,
+        ),
       );
       refused = tt;
       stands = λ e is. (dealt.over e (cc)).2;

@@ -40,10 +40,12 @@ returns-clause-stays g c = λ yes.
       c.commit_on.new.task,
       c.in-Some-commit_on.outcome,
       tasks_in (drop (given + 1) places),
-      rw (← c.self.view_is) (first_task h c.in-Some.task c.index_mut.result.now (omega arith) at),
-      rw (← c.self.view_is, again, rest, c.push_reserved.ensures.items) refl,
-      rw (← c.self.view_is) (omega arith),
-      c.in-Some-commit_on.ensures.goes,
+      (
+        rw (← c.self.view_is) (first_task h c.in-Some.task c.index_mut.result.now (omega arith) at),
+        rw (← c.self.view_is, again, rest, c.push_reserved.ensures.items) refl,
+        rw (← c.self.view_is) (omega arith),
+        c.in-Some-commit_on.ensures.goes,
+      ),
     )
 
 pub commit_on-requires-clause-out : goal.commit_on-requires-clause-out

@@ -1,5 +1,5 @@
 -- A channel that is found is one of the network's.
-use Rattle.std.proofs.Common.{◌≡◌, ◌<◌, None, get_or, slice_index_or, length, rules}
+use Rattle.std.proofs.Common.{◌≡◌, ◌<◌, None, get_or, length, rules}
 use Rattle.kpn_model.specs.Network.{in_of}
 use Rattle.kpn_network.proofs.PortsWithin.{found_within, input_is}
 use Rattle.kpn_network.proofs.net.Net.input_at.Goals as goal

@@ -1,6 +1,6 @@
 -- One more entry; and no count is greater than the number of entries.
 use Rattle.std.proofs.lemmas.Grind.{common_steps}
-use Rattle.std.proofs.Common.{◌≡◌, ◌<◌, arith, length, map}
+use Rattle.std.proofs.Common.{arith, map}
 use Rattle.kpn_state.specs.Packed.{unpacked}
 use Rattle.kpn_report.proofs.Counting.{few_steps, few_puts, few_takes, counted_more}
 use Rattle.kpn_report.proofs.tallied.TalliedKeeper.keep.Goals as goal
