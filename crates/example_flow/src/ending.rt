@@ -1,10 +1,10 @@
 //! Writes the state of a flow.
 use crate::piped::CardFlow;
 use anyhow::Result;
-use kpn_body::Standard;
 use kpn_flow::Pause;
 use kpn_net::{End, Net, Place};
 use kpn_report::places_of;
+use kpn_standard::Standard;
 use std::alloc::Global;
 use std::io::{self, Write};
 

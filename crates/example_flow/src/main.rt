@@ -35,11 +35,11 @@ fn play<R: Input + Print>(rt: &R, alloc: Global) -> Result<()> {
 fn play_lines<S: BufRead, W: Write>(alloc: Global, source: &mut S, sink: &mut W) -> Result<()> {
     let description = read_description(alloc, source)?;
     let mut piped = open(alloc, &description)?;
-    obey_all(alloc, &mut piped, source, sink)
+    execute_lines(alloc, &mut piped, source, sink)
 }
 
 /// Executes each line, and flushes the output.
-fn obey_all<S: BufRead, W: Write>(
+fn execute_lines<S: BufRead, W: Write>(
     alloc: Global,
     piped: &mut Piped,
     source: &mut S,
@@ -47,7 +47,7 @@ fn obey_all<S: BufRead, W: Write>(
 ) -> Result<()> {
     let mut line = String::new(alloc);
     for _ in 0..u64::MAX {
-        if !obey_next(alloc, piped, &mut line, source, sink)? {
+        if !execute_next_line(alloc, piped, &mut line, source, sink)? {
             break;
         }
     }
@@ -55,7 +55,7 @@ fn obey_all<S: BufRead, W: Write>(
 }
 
 /// Executes the next line. Returns whether to read another one.
-fn obey_next<S: BufRead, W: Write>(
+fn execute_next_line<S: BufRead, W: Write>(
     alloc: Global,
     piped: &mut Piped,
     line: &mut String,
@@ -71,6 +71,6 @@ fn obey_next<S: BufRead, W: Write>(
     if said == "stop" {
         return Ok(false);
     }
-    piped.obey(alloc, said, sink)?;
+    piped.execute_line(alloc, said, sink)?;
     Ok(true)
 }

@@ -1,10 +1,10 @@
 //! Opens a flow from the first lines.
 use crate::piped::{CardFlow, Piped, Port};
 use anyhow::{Result, bail};
-use kpn_body::Standard;
 use kpn_compute::{CardBody, bodies_of};
 use kpn_flow::{Flow, stops_at_once};
 use kpn_net::{Check, Net, NetFault, read_sketch};
+use kpn_standard::Standard;
 use std::alloc::Global;
 use std::io::BufRead;
 

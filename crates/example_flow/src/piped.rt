@@ -2,10 +2,10 @@
 use crate::ending::{write_pause, write_places};
 use crate::lines::{Command, read_line, read_tokens};
 use anyhow::{Result, bail};
-use kpn_body::Standard;
 use kpn_compute::CardBody;
 use kpn_flow::{Flow, Pause};
 use kpn_net::Token;
+use kpn_standard::Standard;
 use std::alloc::Global;
 use std::io::{self, Write};
 
@@ -41,7 +41,12 @@ impl Piped {
     }
 
     /// Executes a line, and writes its output.
-    pub fn obey<W: Write>(&mut self, alloc: Global, line: &str, sink: &mut W) -> Result<()> {
+    pub fn execute_line<W: Write>(
+        &mut self,
+        alloc: Global,
+        line: &str,
+        sink: &mut W,
+    ) -> Result<()> {
         match read_line(line) {
             Some(Command::Word(word)) => self.pour(word, sink),
             Some(Command::Feed(name)) => self.feed_and_tell(alloc, name, line, sink),

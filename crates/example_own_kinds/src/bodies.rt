@@ -1,12 +1,14 @@
 //! Bodies for a network of standard kinds.
 ghost use Rattle.std.specs.Prelude.{◌≡◌, IsSome, IfOk};
 ghost use Rattle.kpn_standard.specs.Standard.{standard};
-ghost use Rattle.kpn_body.specs.StandardKinds.{signature, Admitted};
+ghost use Rattle.kpn_standard.specs.Signatures.{signature};
+ghost use Rattle.kpn_standard.specs.Admitted.{Admitted};
 ghost use Rattle.example_own_kinds.specs.First.{answers_at_start, answers_of_bodies};
 
 use crate::asked::first_answer;
-use kpn_body::{Body, Call, Standard, StandardBody, answer};
+use kpn_body::Body;
 use kpn_net::{Answer, Local, Net, Token};
+use kpn_standard::{Call, Standard, StandardBody, answer};
 use std::alloc::{AllocError, Global};
 
 /// Returns the first answer of each process, in order, from a body made with a closure of its own. The closure

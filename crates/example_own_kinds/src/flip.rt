@@ -4,8 +4,9 @@ ghost use Rattle.kpn_body.specs.Calls.{IsCallable, Answers, answers_prop};
 ghost use Rattle.example_own_kinds.specs.Flip.{number_named, ports, FlipLine, answer, flips, flip};
 
 use crate::asked::answer_of;
-use kpn_body::{Body, Call};
+use kpn_body::Body;
 use kpn_net::{Act, Answer, Card, Kinds, Local, Signature, Sort, Token};
+use kpn_standard::Call;
 use std::alloc::{AllocError, Global};
 
 /// The family with the one kind `flip`, number 0, without arguments, with one input and one output of flags.

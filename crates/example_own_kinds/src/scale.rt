@@ -2,11 +2,12 @@
 ghost use Rattle.std.specs.Prelude.{◌≡◌, ◌*◌, ◌%◌, ◌^◌, ◌∷◌, [], IfOk};
 ghost use Rattle.kpn_standard.specs.Standard.{standard};
 ghost use Rattle.kpn_standard.specs.Locals.{says};
-ghost use Rattle.kpn_body.specs.StandardKinds.{card, Admitted};
+ghost use Rattle.kpn_standard.specs.Signatures.{card};
+ghost use Rattle.kpn_standard.specs.Admitted.{Admitted};
 
 use crate::asked::answer_of;
-use kpn_body::{Call, StandardBody};
 use kpn_net::{Act, Answer, Card, Local, Token};
+use kpn_standard::{Call, StandardBody};
 use std::alloc::{AllocError, Global};
 
 /// The number of the standard kind `scale`.

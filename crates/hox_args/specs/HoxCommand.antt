@@ -32,7 +32,7 @@ unsigned_rule = list_rule (codes "unsigned")
 abbrev pub progress_rule : Rule
 progress_rule = flag_rule (codes "progress")
 
--- the same options with a short name of one letter, `-o FILE` for `--out FILE`
+-- options that have a short name of one letter too, `-o FILE` for `--out FILE`
 abbrev pub out_rule : Rule
 out_rule = record (list_rule (codes "out")) { short = Some 111 }
 

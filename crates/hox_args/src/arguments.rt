@@ -10,7 +10,7 @@ ghost use Rattle.hox_args.specs.HoxChoices.{BudgetFrom, GivesChoice, HasFewHoxWo
 use crate::command::command_line;
 use clap::ArgMatches;
 use clap::error::ErrorKind;
-use kpn_args::{subcommand_in, text_in, workers_in};
+use kpn_args::{MAX_WORKERS, subcommand_in, text_in, workers_in};
 use kpn_front::ExitStatus;
 use kpn_picture::Direction;
 use std::alloc::{AllocError, Global};
@@ -144,8 +144,9 @@ impl fmt::Display for WordsFault {
     fn fmt<W: fmt::Write>(&self, f: &mut fmt::Formatter<W>) -> fmt::Result {
         match self {
             WordsFault::Parser(error) => error.fmt(f),
-            WordsFault::Workers => f.write_str(
-                "error: --workers takes a number from 1 to 16\n\nFor more information, try 'hox run --help'.\n",
+            WordsFault::Workers => write!(
+                f,
+                "error: --workers takes a number from 1 to {MAX_WORKERS}\n\nFor more information, try 'hox run --help'.\n"
             ),
             WordsFault::Budget => f.write_str(
                 "error: --budget takes a number\n\nFor more information, try 'hox run --help'.\n",

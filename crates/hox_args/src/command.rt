@@ -6,7 +6,7 @@ ghost use Rattle.hox_args.specs.HoxCommand.{IsLocalArg, bare_hox, budget_rule, f
 
 use crate::help::{FILES, MORE, NAMES, PICTURES, STATUSES, STREAMS};
 use clap::{Arg, ArgAction, Command};
-use kpn_args::{bare, option, with_arg, with_subcommand};
+use kpn_args::{VERSION, bare, option, with_arg, with_subcommand};
 use std::alloc::{AllocError, Global};
 
 pub(crate) fn command_line<'a>(alloc: Global) -> Result<Command<'a>, AllocError>
@@ -38,7 +38,7 @@ fn bare_hox<'a>(alloc: Global) -> Command<'a>
     Command::new(alloc, "hox")
         .about("Runs Kahn process networks on tokens of files")
         .after_help(STATUSES)
-        .version("0.1.0")
+        .version(VERSION)
         .subcommand_required(true)
 }
 

@@ -29,7 +29,7 @@ pub tries_one : {X E : Type 0} (e : Effect) (r : Result X E) → is_failure e �
 tries_one {X} {E} e (Ok x) real a b done failed = record { tried = e ∷ []; each = (inl refl, tt); none_failed = not_either (is_failure e) real; goes_on = done }
 tries_one {X} {E} e (Err y) real a b done failed = record { tried = failure_of e ∷ []; each = (inr refl, tt); none_failed = not_both (is_failure (failure_of e)) (fails e); goes_on = failed }
 
--- the same, where the effect and the answer are known under other names
+-- one effect, where it and the answer are known under other names
 pub tries_as :
     {X E : Type 0} (e due : Effect) (r : Result X E) (k : Bool) → e ≡ due → k ≡ is_ok r → is_failure e ≡ false → (a b : Option (List Effect)) → OnOk r (GoOn (e ∷ []) a b) → OnErr r (GoOn (failure_of e ∷ []) a b)
     → Tries (due ∷ []) k a b

@@ -4,9 +4,7 @@ use Rattle.std.specs.List.{AllZip, Any, filter}
 use Rattle.std.specs.Io.KnownBytes.{Appends}
 use Rattle.kpn_sketch.specs.declared.fault.NetFault.{NetFault}
 use Rattle.kpn_sketch.specs.declared.fault.NetFault.TheVariants.{Input}
-use Rattle.kpn_sketch.specs.declared.sketch.Delayed.{Delayed}
 use Rattle.kpn_sketch.specs.declared.sketch.Sketch.{Sketch}
-use Rattle.kpn_sketch.specs.Description.{DescribesDelayed, delayed_of}
 use Rattle.kpn_model.specs.Network.{Family, Network}
 use Rattle.kpn_net.specs.Sketched.{net_of}
 use Rattle.kpn_front.specs.Names.{KindNames, Signatures}

@@ -64,7 +64,7 @@ pub(crate) fn run<
         progress,
         is_asked: choice.progress,
     };
-    match told_of::<K, S, R, Asking<'_, P>>(rt, alloc, files, &request, &asking) {
+    match run_described::<K, S, R, Asking<'_, P>>(rt, alloc, files, &request, &asking) {
         Ok(told) => ran_of(alloc, files, told, asked, wanted),
         Err(Unserved { fault, error }) => Err(Stop::Refused(RefusedRequest {
             file: wanted.file,
@@ -158,7 +158,7 @@ struct RequestOf<'a> {
 }
 
 /// Runs the network of a description. A file that can't be opened counts as one that can't be read.
-fn told_of<K: Computes, S: FileSystem, R: Wait + Clock + Threads + Sync, P: ProgressReceiver>(
+fn run_described<K: Computes, S: FileSystem, R: Wait + Clock + Threads + Sync, P: ProgressReceiver>(
     rt: &R,
     alloc: Global,
     files: &S,

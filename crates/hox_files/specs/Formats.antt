@@ -1,5 +1,5 @@
 -- The formats of files, as the arguments CHANNEL=FORMAT give them.
-use Rattle.std.specs.Prelude.{◌≡◌, ◌<◌, ◌==◌, ◌&&◌, ◌||◌, ℕ, Bool, true, false, if◌then◌else◌, codes, is_some, length, nat_lt, List, [], ◌∷◌, Option, Some, None, Ok, Err}
+use Rattle.std.specs.Prelude.{◌≡◌, ◌<◌, ◌==◌, ◌&&◌, ◌||◌, ℕ, Bool, if◌then◌else◌, codes, is_some, length, nat_lt, List, [], ◌∷◌, Option, Some, None, Ok, Err}
 use Rattle.std.specs.List.{Contains, after_first, before_first, list_any, position_or_len}
 use Rattle.std.specs.Option.{option_map_or}
 use Rattle.std.specs.Str.{bytes_eq}

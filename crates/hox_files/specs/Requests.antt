@@ -1,5 +1,5 @@
 -- A command's request, and the files read for it.
-use Rattle.std.specs.Prelude.{◌≡◌, ◌==◌, ◌&&◌, ◌||◌, ◌<◌, ◌⊎◌, not, ℕ, codes, Bool, false, true, List, length, map, Option, Some, IfSome, Result, Ok, Err}
+use Rattle.std.specs.Prelude.{◌≡◌, ◌==◌, ◌&&◌, ◌<◌, ◌⊎◌, not, ℕ, codes, Bool, false, true, List, length, map, Option, Some, IfSome, Result, Ok, Err}
 use Rattle.std.specs.List.{AllZip, Any}
 use Rattle.kpn_model.specs.Network.{Network}
 use Rattle.hox_network.specs.declared.reading.TheConstants.{LONGEST_FILE}
@@ -27,7 +27,7 @@ use Rattle.hox_files.specs.declared.stops.Stop.{Stop}
 use Rattle.hox_files.specs.declared.stops.Stop.TheVariants.{Clash, Format, InputTwice, Memory, NoPair, Refused, Unread, Words}
 use Rattle.hox_files.specs.declared.uses.Role.TheVariants.{Tokens}
 use Rattle.hox_files.specs.Formats.{is_named}
-use Rattle.hox_files.specs.Pairs.{ArePairs, AreUsable, IsUnpaired, IsUnusable, channels_of, count_standard, firsts, is_named_twice}
+use Rattle.hox_files.specs.Pairs.{ArePairs, AreUsable, IsUnpaired, IsUnusable, count_standard, firsts, is_named_twice}
 use Rattle.hox_files.specs.Uses.{AreApart, IsMisuse, Used, uses_in}
 use Rattle.std.specs.Borrow.{Bor}
 use Rattle.kpn_front.specs.Names.{KindNames, Signatures}

@@ -2,7 +2,7 @@
 use Rattle.std.proofs.Common.{◌≡◌, ◌<◌, ◌≤◌, ◌+◌, ◌-◌, ◌++◌, ℕ, Bool, List, [], Option, Some, None, IfSome, drop, length, length-drop, min, option_map, inl, inr, refl, sym, ap, subst, take, append-nil, append_assoc, ◌∙◌, arith}
 use Rattle.std.proofs.Math.Seq.{take-append-add, take-nil}
 use Rattle.std.proofs.lemmas.Bool.{cases_lt}
-use Rattle.std.proofs.lemmas.List.{drop-append-le, drop-drop, drop_all, length-take-le, take-append-drop, take-append-le, take_all, take_at}
+use Rattle.std.proofs.lemmas.List.{drop-append-le, drop-drop, drop_all, length-take-le, take-append-drop, take-append-le, take_at}
 use Rattle.std.specs.Io.KnownBytes.{Consumes, IsAtEnd, prepend_known}
 use Rattle.std.specs.Option.{option_map_or}
 use Rattle.hox_format.specs.declared.records.Records.{Records}
@@ -112,10 +112,6 @@ module _ (left : Option ℕ) (held : List ℕ) (next : ℕ) (rem : Option (List 
           | inr h ↦ ended_by_size left len n (prepend_known (drop next held) new) (omega (arith, h, long)) nothing some
         ],
       )
-
--- a slice to the end
-pub all_left : (xs : List ℕ) (n : ℕ) → take (length xs - n) (drop n xs) ≡ drop n xs
-all_left xs n = take_all (length xs - n) (drop n xs) (omega (arith, length-drop n xs))
 
 sized_drop : (size : Option ℕ) (start : ℕ) (bytes held ys : List ℕ) → start ≤ length held → bytes ≡ held ++ ys → sized size (drop start held ++ ys) ≡ sized size (drop start bytes)
 sized_drop size start bytes held ys few e = ap (sized size) (sym (drop-append-le start held ys few)) ∙ ap (λ l. sized size (drop start l)) (sym e)

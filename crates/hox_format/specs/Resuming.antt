@@ -79,6 +79,7 @@ module _ {X : Type 0} (remaining : X → Option (List ℕ)) where
   abbrev pub IsFrontIn : Option (List ℕ) → Front X → Type 0
   IsFrontIn known front = IsFrontOf known front.held.items front.is_last (remaining front.source)
 
+  -- it stays so
   abbrev pub StaysFront : Front X → Front X → Type 0
   StaysFront before after = (known : Option (List ℕ)) → IsFrontIn known before → IsFrontIn known after
 

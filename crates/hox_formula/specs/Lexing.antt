@@ -1,5 +1,5 @@
 -- Which bytes spell which symbols.
-use Rattle.std.specs.Prelude.{◌≡◌, ℕ, suc, ◌+◌, ◌-◌, ◌*◌, ◌==◌, nat_lt, nat_le, Bool, true, false, ◌&&◌, ◌||◌, not, if◌then◌else◌, List, [], ◌∷◌, length, drop, Option, Some, None, option_map, is_some, map, take, ◌++◌, ◌≤◌, ◌<◌}
+use Rattle.std.specs.Prelude.{◌≡◌, ℕ, suc, ◌+◌, ◌-◌, ◌*◌, ◌==◌, nat_lt, nat_le, Bool, true, false, ◌&&◌, ◌||◌, if◌then◌else◌, List, [], ◌∷◌, length, drop, Option, Some, None, option_map, is_some, map, take, ◌++◌, ◌≤◌, ◌<◌}
 use Rattle.hox_formula.specs.declared.symbol.Mark.{Mark}
 use Rattle.hox_formula.specs.declared.symbol.Mark.TheVariants as mark
 use Rattle.hox_formula.specs.declared.symbol.Symbol.{Symbol}

@@ -1,5 +1,5 @@
 -- How a session is opened, and why it is not.
-use Rattle.std.specs.Prelude.{◌≡◌, ◌⊎◌, ℕ, List, Option, Err, false, IsUtf8}
+use Rattle.std.specs.Prelude.{◌⊎◌, ℕ, List, Option, Err, false, IsUtf8}
 use Rattle.kpn_model.specs.declared.kinds.Card.{Card}
 use Rattle.kpn_model.specs.declared.kinds.Signature.{Signature}
 use Rattle.kpn_sketch.specs.declared.sketch.Delayed.{Delayed}

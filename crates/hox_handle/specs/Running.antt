@@ -1,5 +1,5 @@
 -- What running a text returns.
-use Rattle.std.specs.Prelude.{◌≡◌, ℕ, true, List, Option, None, Result, Ok, Err, MatchResult, string_bytes}
+use Rattle.std.specs.Prelude.{◌≡◌, ℕ, true, List, None, Result, Ok, Err, MatchResult, string_bytes}
 use Rattle.kpn_sketch.specs.declared.fault.NetFault.{NetFault}
 use Rattle.kpn_model.specs.declared.history.Entry.{Entry}
 use Rattle.kpn_model.specs.declared.history.End.{End}

@@ -1,7 +1,7 @@
 -- What the calls of a session do. A session is seen as its flow, a channel as its place among the inputs or
 -- the outputs.
-use Rattle.std.specs.Prelude.{◌≡◌, ◌<◌, ℕ, ◌&&◌, Bool, List, nat_lt, length, slice_get, Option, Some, None, MatchOption, option_map}
-use Rattle.kpn_model.specs.Network.{Family, Network, channel_of, number_of_channel}
+use Rattle.std.specs.Prelude.{◌≡◌, ℕ, ◌&&◌, Bool, List, nat_lt, length, slice_get, Option, Some, MatchOption, option_map}
+use Rattle.kpn_model.specs.Network.{Family, Network, number_of_channel}
 use Rattle.kpn_model.specs.Semantics.{tokens, capacity}
 use Rattle.kpn_standard.specs.Standard.{standard}
 use Rattle.kpn_signals.specs.Family.{signals}

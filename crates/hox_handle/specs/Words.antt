@@ -3,7 +3,7 @@ use Rattle.std.specs.Prelude.{◌≡◌, ◌<◌, ◌≤◌, ℕ, true, false, L
 use Rattle.kpn_model.specs.declared.token.Token.{Token}
 use Rattle.kpn_model.specs.declared.token.Token.TheVariants.{Word, Flag}
 use Rattle.kpn_model.specs.declared.token.Sort.{Sort}
-use Rattle.kpn_model.specs.declared.token.Sort.TheVariants.{Words, Flags}
+use Rattle.kpn_model.specs.declared.token.Sort.TheVariants.{Flags}
 use Rattle.kpn_model.specs.Network.{Family, channel_of}
 use Rattle.kpn_model.specs.Semantics.{tokens, capacity}
 use Rattle.kpn_flow.specs.Events.{Fed, Drained, Flows}

@@ -41,10 +41,13 @@ fn run_net(alloc: Global, net: Net<AllKinds>) -> Result<RunReport, AllocError>
         return Err(AllocError);
     };
     machine.finish_alone();
-    told_of(alloc, &machine.into_chronicle())
+    tell_run(alloc, &machine.into_chronicle())
 }
 
-fn told_of(alloc: Global, chronicle: &Chronicle<AllKinds, Tallied>) -> Result<RunReport, AllocError>
+fn tell_run(
+    alloc: Global,
+    chronicle: &Chronicle<AllKinds, Tallied>,
+) -> Result<RunReport, AllocError>
     requires { IsSome chronicle.now.end }
     ensures { IfOk result (IsRunTold chronicle.now.network) }
 {

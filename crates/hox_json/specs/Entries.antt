@@ -5,7 +5,7 @@ use Rattle.std.specs.declared.alloc.Global.{Global}
 use Rattle.serde_json.specs.Data.{Members}
 use Rattle.serde_json.specs.View.{members_view, view}
 use Rattle.serde_json.specs.declared.value.Value.{Value}
-use Rattle.hox_json.specs.declared.named.Told.{Told}
+use Rattle.hox_json.specs.declared.named.Fact.{Fact}
 use Rattle.hox_json.specs.Json.{put_if, put_named, with_history, with_places, with_rest, with_verdict}
 use Rattle.hox_json.specs.Told.{data_of}
 
@@ -35,5 +35,5 @@ abbrev pub value_put_if : Bool → List ℕ → Value → MemberEntries → Memb
 value_put_if is_told key value entries = put_if is_told key (view value) (members_view entries)
 
 -- the members, and the one that the words name
-abbrev pub named_put : Told → List (Bor (List ℕ)) → MemberEntries → Members
+abbrev pub named_put : Fact → List (Bor (List ℕ)) → MemberEntries → Members
 named_put told words entries = put_named (data_of told) (members_view entries) (plain_texts words)

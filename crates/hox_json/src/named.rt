@@ -13,14 +13,14 @@ use std::alloc::{AllocError, Global};
 
 /// What a line tells of the name after its first word.
 #[derive(Clone, Copy)]
-pub(crate) enum Told {
+pub(crate) enum Fact {
     State,
     Sizes,
     Tokens,
 }
 
 /// Returns what each of these lines tells, by the name that it tells it of.
-pub(crate) fn named(alloc: Global, told: Told, lines: &[&str]) -> Result<Value, AllocError>
+pub(crate) fn named(alloc: Global, told: Fact, lines: &[&str]) -> Result<Value, AllocError>
     ensures { IfOk result (λ v. view v ≡ object (named (data_of told) (map (λ s. s.now) lines.now))) }
 {
     let mut values = Map::new(alloc);
@@ -34,7 +34,7 @@ pub(crate) fn named(alloc: Global, told: Told, lines: &[&str]) -> Result<Value, 
 fn put_named(
     values: &mut Map<String, Value>,
     alloc: Global,
-    told: Told,
+    told: Fact,
     words: &[&str],
 ) -> Result<(), AllocError>
     ensures { OnOk result (members_view values.new.entries ≡ named_put told words.now values.old.entries) }
@@ -45,12 +45,12 @@ fn put_named(
     }
 }
 
-fn value_of(alloc: Global, told: Told, words: &[&str]) -> Result<Value, AllocError>
+fn value_of(alloc: Global, told: Fact, words: &[&str]) -> Result<Value, AllocError>
     ensures { IfOk result (λ v. view v ≡ data_of told (map (λ s. s.now) words.now)) }
 {
     match told {
-        Told::State => state(alloc, words),
-        Told::Sizes => sizes(alloc, words),
-        Told::Tokens => tokens(alloc, words),
+        Fact::State => state(alloc, words),
+        Fact::Sizes => sizes(alloc, words),
+        Fact::Tokens => tokens(alloc, words),
     }
 }

@@ -5,7 +5,7 @@ ghost use Rattle.hox_json.specs.Entries.{history_put, places_put, rest_put, verd
 ghost use Rattle.hox_json.specs.Json.{json_text, report_data};
 
 use crate::lines::{first_line, first_text, lines_in, lines_of, word_of, words_after};
-use crate::named::{Told, named};
+use crate::named::{Fact, named};
 use crate::values::{growths, names, put_if, token};
 use serde_json::{Map, Value, put};
 use std::alloc::{AllocError, Global};
@@ -64,8 +64,8 @@ fn put_places(
 {
     let processes = lines_of(alloc, lines, "process")?;
     let channels = lines_of(alloc, lines, "channel")?;
-    let states = named(alloc, Told::State, processes.as_slice())?;
-    let sizes = named(alloc, Told::Sizes, channels.as_slice())?;
+    let states = named(alloc, Fact::State, processes.as_slice())?;
+    let sizes = named(alloc, Fact::Sizes, channels.as_slice())?;
     put_if(members, alloc, !processes.is_empty(), "processes", states)?;
     put_if(members, alloc, !channels.is_empty(), "channels", sizes)
 }
@@ -86,7 +86,7 @@ fn put_history(
     let growths = growths(alloc, grew.as_slice())?;
     put_if(members, alloc, has_ended, "growths", growths)?;
     let streams = lines_of(alloc, lines, "stream")?;
-    let streams = named(alloc, Told::Tokens, streams.as_slice())?;
+    let streams = named(alloc, Fact::Tokens, streams.as_slice())?;
     put_if(members, alloc, has_ended, "streams", streams)
 }
 
@@ -103,6 +103,6 @@ fn put_rest(
     let actives = names(alloc, words.as_slice())?;
     put_if(members, alloc, !active.is_empty(), "active", actives)?;
     let prefixes = lines_of(alloc, lines, "prefix")?;
-    let streams = named(alloc, Told::Tokens, prefixes.as_slice())?;
+    let streams = named(alloc, Fact::Tokens, prefixes.as_slice())?;
     put_if(members, alloc, !prefixes.is_empty(), "prefixes", streams)
 }

@@ -1,5 +1,6 @@
 -- A text whose sketch is read as it is meant.
 use Rattle.std.proofs.Common.{◌≡◌, ◌≢◌, ◌≤◌, ℕ, Bool, false, length, List, [], ◌∷◌, Option, Some, None, IfSome, Result, Err, IfOk, IfErr, refl, sym, ◌∙◌}
+use Rattle.std.proofs.lemmas.Option.{same_Some}
 use Rattle.std.specs.List.{AllZip}
 use Rattle.kpn_model.specs.declared.kinds.Card.{Card}
 use Rattle.kpn_model.specs.declared.kinds.Signature.{Signature}
@@ -24,12 +25,9 @@ pub loads_known :
 loads_known named signature failed None text r same e h = tt
 loads_known named signature failed (Some t) text r same e h = rw (← same, e) h
 
-some_is : {X : Type 0} (x y : X) → Some x ≡ Some y → x ≡ y
-some_is x y same = cc
-
 -- a text describes one thing
 pub one_description : (text : List ℕ) (d e : Delayed) → DescribesDelayed text d → DescribesDelayed text e → d ≡ e
-one_description text d e one other = some_is d e (sym one.1 ∙ other.1)
+one_description text d e one other = same_Some d e (sym one.1 ∙ other.1)
 
 -- what was written out of what the text describes is a way to write it out
 pub writes_this : (text : List ℕ) (d written : Delayed) → DescribesDelayed text d → IsWrittenOut d written → WritesOut text (λ _. written)

@@ -1,5 +1,5 @@
 -- Formulas as kinds: a process whose kind is a formula gets a card that means it.
-use Rattle.std.specs.Prelude.{◌≡◌, ℕ, ℤ, pos, codes, decimal, List, [], ◌∷◌, ◌++◌, map}
+use Rattle.std.specs.Prelude.{◌≡◌, ℕ, pos, codes, decimal, List, [], ◌++◌, map}
 use Rattle.std.specs.List.{AllZip}
 use Rattle.kpn_model.specs.declared.kinds.Card.{Card}
 use Rattle.kpn_sketch.specs.declared.sketch.ProcessSketch.{ProcessSketch}

@@ -1,5 +1,6 @@
 -- Which processes were dry when a run ended, and which streams are whole.
 use Rattle.std.proofs.Common.{◌≡◌, ◌≢◌, ◌↔◌, ◌&&◌, ◌||◌, ◌==◌, ℕ, Bool, true, false, if◌then◌else◌, List, Some, length, not, refl, sym, ◌∙◌, subst}
+use Rattle.std.proofs.lemmas.Bool.{and_parts}
 use Rattle.std.proofs.lemmas.List.Sums.{AllPass-from_list_all}
 use Rattle.kpn_model.specs.declared.history.End.{End}
 use Rattle.kpn_model.specs.declared.history.End.TheVariants.{Terminated, Deadlock, Ceiling, Budget, Memory}
@@ -19,10 +20,6 @@ use Rattle.kpn_tokens.specs.declared.layouts.Layout.{Layout}
 use Rattle.hox_run.specs.declared.shown.ChannelAs.{ChannelAs}
 use Rattle.hox_run.specs.Judging.{AreDry, IsJudged, are_complete, has_all}
 use Rattle.hox_run.specs.Telling.{AreWhole, is_early}
-
-both_true : (a b : Bool) → (a && b) ≡ true → (a ≡ true) × (b ≡ true)
-both_true true b h = (refl, h)
-both_true false b h = cc
 
 -- of two verdicts the first was chosen, as the other differs
 chosen : (test : Bool) (verdict other : Verdict) → verdict ≡ (if test then RanDry else other) → verdict ≡ RanDry → (other ≡ RanDry → ⊥) → test ≡ true
@@ -60,8 +57,8 @@ module _ (kinds : Family) (admits : Admits) (s : MachineView) (faithful : IsFait
       both_whole : has_all s.network (is_told_dry s.network s.standings) show outputs ≡ true → AreWhole kinds s.network s.history show × AreWhole kinds s.network s.history outputs
       both_whole all =
           let dry = is_told_dry s.network s.standings in
-          let each = (both_true (not (length show == 0) || not (length outputs == 0)) (are_complete s.network dry show && are_complete s.network dry outputs) all).1 in
-          let two = both_true (are_complete s.network dry show) (are_complete s.network dry outputs) each in
+          let each = (and_parts (not (length show == 0) || not (length outputs == 0)) (are_complete s.network dry show && are_complete s.network dry outputs) all).1 in
+          let two = and_parts (are_complete s.network dry show) (are_complete s.network dry outputs) each in
           (are_whole show two.0, are_whole outputs two.1)
 
       pub early_whole : (places : List Place) (cause : End) (verdict : Verdict) → IsJudged s.network (is_told_dry s.network s.standings) show outputs places cause verdict

@@ -27,6 +27,6 @@ module _ (kinds : Family) (request : Request) where
     refused fault served = serves_on (GivesRun kinds request) (Err fault) (refuses fault) served
 
     -- a network that is prepared is run
-    pub told_of : (other : Network) (last : Result Told Fault) → Serves named signature (GivesNet request) input before after (Ok other)
+    pub told_served : (other : Network) (last : Result Told Fault) → Serves named signature (GivesNet request) input before after (Ok other)
         → ((net : Network) → Prepares request net other → GivesRun kinds request net last) → Serves named signature (GivesRun kinds request) input before after last
-    told_of other last served told = serves_on (GivesRun kinds request) last (gives other last told) served
+    told_served other last served told = serves_on (GivesRun kinds request) last (gives other last told) served

@@ -27,7 +27,8 @@ use Rattle.kpn_dry.specs.Dry.{CompleteIsWhole}
 use Rattle.kpn_dry.specs.Told.{is_told_dry}
 use Rattle.kpn_model.specs.declared.verdict.Verdict.TheVariants.{RanDry, Cut, Full}
 use Rattle.kpn_laws.proofs.ReportedStreams.{each_stream}
-use Rattle.kpn_report.specs.Text.{end_line, digest_text, report_text}
+use Rattle.kpn_report.specs.Text.{report_text}
+use Rattle.kpn_report.proofs.OverTexts.{one_text}
 use Rattle.kpn_verdict.specs.VerdictText.{verdict_line}
 use Rattle.kpn_tokens.specs.declared.layouts.Decimals.{Decimals}
 use Rattle.kpn_tokens.specs.declared.layouts.Layout.{Layout}
@@ -63,17 +64,6 @@ module _ (net : Network) (dry : ℕ → Bool) (show : List (ChannelAs Decimals))
       subst (λ l. IsJudged net dry show outputs l Deadlock verdict × (verdict_line net places verdict ≡ verdict_line net l verdict)) (same refl) (judged, refl)
 
 module _ (kinds : Family) (net : Network) where
-  -- the text of a run that is over, from its digest
-  abbrev text_of : Digest → List ℕ
-  text_of d = end_line d.cause ++ digest_text net d None
-
-  over_text : (cause : End) (E : List Entry) (M : State) → IsOver kinds net M cause → report_text kinds net cause E M None ≡ text_of (digest kinds net cause E M)
-  over_text Terminated E M over = refl
-  over_text Deadlock E M over = refl
-  over_text Ceiling E M over = refl
-  over_text Budget E M over = elim over [ ]
-  over_text Memory E M over = elim over [ ]
-
   -- the streams that are shown of a run that is over, from its digest
   abbrev shown_of : List (ChannelAs Decimals) → Digest → List ℕ
   shown_of show d = flat_map (λ c. tokens_line net (codes "stream ") (slice_index_or d.streams c.channel []) c) show
@@ -92,7 +82,7 @@ module _ (kinds : Family) (net : Network) where
         let same : digest kinds net cause E M ≡ digest kinds net b F N = one net E F M N cause b e f in
         let streams : each_channel net (λ c. stream net E c) ≡ each_channel net (λ c. stream net F c) = ap (λ (d : Digest). d.streams) same in
         let places : places_in kinds net M ≡ places_in kinds net N = ap (λ (d : Digest). d.places) same in
-        let texts : report_text kinds net cause E M None ≡ report_text kinds net b F N None = over_text cause E M e.over ∙ ap text_of same ∙ sym (over_text b F N f.over) in
+        let texts : report_text kinds net cause E M None ≡ report_text kinds net b F N None = one_text kinds net one E F M N cause b None e f in
         let shown : before_verdict net cause E show ≡ before_verdict net b F show = over_shown show cause E M e.over ∙ ap (shown_of show) same ∙ sym (over_shown show b F N f.over) in
         let at : (c : ℕ) → stream net E c ≡ stream net F c = λ c. each_stream kinds net (start kinds net) E M e.run c ∙ ap (λ (ss : List (List Token)). get_or ss c []) streams ∙ sym (each_stream kinds net (start kinds net) F N f.run c) in
         let ends : cause ≡ b = ap (λ (d : Digest). d.cause) same in

@@ -11,7 +11,7 @@ use Rattle.kpn_report.specs.declared.entries.Entries.{Ghosts as EntriesOf}
 use Rattle.kpn_report.specs.Text.{report_text}
 use Rattle.kpn_tokens.specs.declared.layouts.Decimals.{Decimals}
 use Rattle.hox_run.specs.declared.ended.Ended.{Ended}
-use Rattle.hox_run.specs.declared.judging.Judged.{Judged}
+use Rattle.hox_run.specs.declared.judging.JudgedRun.{JudgedRun}
 use Rattle.hox_run.specs.declared.shown.ChannelAs.{ChannelAs}
 use Rattle.hox_run.specs.declared.shown.WantedStreams.{WantedStreams}
 use Rattle.hox_run.specs.Cuts.{after_verdict, before_verdict, left_at, stream_shown, streams_text}
@@ -75,5 +75,5 @@ module _ {K E : Type 0} (run : Ended K E) where
           (kinds : Family) (M : State) → IsLeftIn kinds M → text ≡ as_judged verdict (report_by kinds M)
 
       -- so is that of what was judged
-      abbrev pub ReportsRun : Judged → Type 0
+      abbrev pub ReportsRun : JudgedRun → Type 0
       ReportsRun judged = ReportsJudged judged.verdict (string_bytes judged.report)

@@ -1,5 +1,5 @@
 -- The result of a run.
-use Rattle.std.specs.Prelude.{◌≡◌, ◌<◌, ◌≤◌, ℕ, Bool, true, false, if◌then◌else◌, List, [], is_some, length, map, not, take, unwrap_or, Option, None, string_bytes}
+use Rattle.std.specs.Prelude.{◌≡◌, ◌<◌, ℕ, Bool, true, false, if◌then◌else◌, List, [], is_some, length, map, not, take, unwrap_or, Option, None, string_bytes}
 use Rattle.std.specs.List.{All, list_any, position}
 use Rattle.kpn_model.specs.declared.token.Token.{Token}
 use Rattle.kpn_model.specs.declared.history.Entry.{Entry}

@@ -20,7 +20,7 @@ use std::alloc::{AllocError, Global};
 
 /// The verdict on a run, and its report with the verdict.
 #[derive(Drop)]
-pub(crate) struct Judged {
+pub(crate) struct JudgedRun {
     pub(crate) verdict: Verdict,
     pub(crate) report: String,
 }
@@ -30,14 +30,14 @@ pub(crate) fn judge<K: Kinds, E: Entries>(
     alloc: Global,
     run: &Ended<'_, K, E>,
     wanted: &WantedStreams<'_>,
-) -> Result<Judged, AllocError>
+) -> Result<JudgedRun, AllocError>
     ensures verdict { IfOk result (λ judged. JudgesRun run.now wanted.now judged.verdict) }
     ensures report { IfOk result (ReportsRun run.now E.Entries wanted.now.show.now) }
 {
     let verdict = verdict_on(run, wanted);
     let mut report = text_of_entries(alloc, run.net, run.history, run.places, run.end, None)?;
     push_judged(alloc, &mut report, run, wanted.show, verdict)?;
-    Ok(Judged { verdict, report })
+    Ok(JudgedRun { verdict, report })
 }
 
 /// Returns the verdict on a run. At the ceiling, or if it was cut, it ran dry if some channel is wanted, and all

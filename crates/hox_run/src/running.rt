@@ -8,7 +8,7 @@ ghost use Rattle.hox_run.specs.Telling.{IsOfRun, MayShareFor, TellsWanted};
 
 use crate::progress::{OnBoard, ProgressReceiver, tell_of};
 use crate::shown::{WantedRun, WantedStreams};
-use crate::telling::{Told, told_of};
+use crate::telling::{Told, tell_run};
 use hox_network::NoResult;
 use kpn_body::Body;
 use kpn_compute::{CardBody, Computes, bodies_of};
@@ -74,7 +74,7 @@ fn execute_alone<K: Computes, P: ProgressReceiver>(
     };
     finish(&mut machine, wanted.progress);
     let chronicle = machine.into_chronicle();
-    told_of(alloc, &chronicle, chronicle.keeper(), &wanted.streams)
+    tell_run(alloc, &chronicle, chronicle.keeper(), &wanted.streams)
 }
 
 /// Runs to an end in the calling thread, a piece at a time. No process may be out.
@@ -118,7 +118,7 @@ fn execute_by_workers<K: Computes, R: Wait + Clock + Threads + Sync, P: Progress
         return match run_with_keeper::<CardBody<K>, Packed, R, Prompt>(
             rt, alloc, net, bodies, workers, &Prompt,
         ) {
-            Ok(finish) => told_of_run(alloc, &finish, &wanted.streams),
+            Ok(finish) => tell_watched_run(alloc, &finish, &wanted.streams),
             Err(fault) => Err(no_result_of(fault)),
         };
     }
@@ -129,7 +129,7 @@ fn execute_by_workers<K: Computes, R: Wait + Clock + Threads + Sync, P: Progress
     match run_watched_with_keeper::<CardBody<K>, Packed, R, Prompt, OnBoard<'_, P>>(
         rt, alloc, net, bodies, workers, &Prompt, period, &observer,
     ) {
-        Ok(ran) => told_of_run(alloc, &ran, &wanted.streams),
+        Ok(ran) => tell_watched_run(alloc, &ran, &wanted.streams),
         Err(fault) => match fault {
             WatchedFault::Stopped { .. } => Err(NoResult::Lost),
             WatchedFault::Failed(fault) => Err(no_result_of(fault)),
@@ -151,7 +151,7 @@ fn no_result_of<B: Body>(fault: RunFault<B>) -> NoResult
 
 /// Returns the result of a run by several workers. A watched run without an end is lost: the observer never stops
 /// the run, but no contract says that it then has an end.
-fn told_of_run<K: Computes>(
+fn tell_watched_run<K: Computes>(
     alloc: Global,
     ran: &WatchedRun<K, Packed>,
     wanted: &WantedStreams<'_>,
@@ -163,5 +163,5 @@ fn told_of_run<K: Computes>(
         return Err(NoResult::Lost);
     }
     let chronicle = ran.chronicle();
-    told_of(alloc, chronicle, chronicle.keeper(), wanted).map_err(|_| NoResult::Memory)
+    tell_run(alloc, chronicle, chronicle.keeper(), wanted).map_err(|_| NoResult::Memory)
 }

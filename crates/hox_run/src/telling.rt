@@ -30,7 +30,7 @@ pub struct Told {
 }
 
 /// Returns the result of a run that ended, with these entries and the wanted streams. Errors: out of memory.
-pub(crate) fn told_of<K: Kinds, H: Keeper, E: Entries>(
+pub(crate) fn tell_run<K: Kinds, H: Keeper, E: Entries>(
     alloc: Global,
     chronicle: &Chronicle<K, H>,
     history: &E,

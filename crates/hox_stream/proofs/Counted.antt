@@ -1,28 +1,12 @@
 -- Counts that stay at 2 ^ 64 - 1 once they are there.
-use Rattle.std.proofs.Common.{◌≡◌, ⊎_elim, sym, ap, ◌∙◌, arith, ℕ, ◌+◌, ◌-◌, ◌^◌, ◌<◌, ◌≤◌, subst, List, ◌++◌, length, length-append}
-use Rattle.std.proofs.Math.Nat.{min-eq_left, min_comm}
-use Rattle.std.proofs.lemmas.Bool.{cases_lt}
+use Rattle.std.proofs.Common.{◌≡◌, sym, ap, ◌∙◌, arith, ℕ, ◌+◌, ◌-◌, ◌^◌, ◌≤◌, subst, List, ◌++◌, length, length-append}
 use Rattle.std.specs.Io.Iter.{u64_saturate}
 use Rattle.kpn_model.specs.declared.token.Token.{Token}
+use Rattle.kpn_flow.proofs.Counting.{saturate_below, saturate_twice}
 use Rattle.hox_stream.specs.Ports.{CountsOn}
-
-saturate_below : (n : ℕ) → n ≤ 2 ^ 64 - 1 → u64_saturate n ≡ n
-saturate_below n h = min-eq_left h
-
-saturate_above : (n : ℕ) → 2 ^ 64 - 1 ≤ n → u64_saturate n ≡ 2 ^ 64 - 1
-saturate_above n h = min_comm n (2 ^ 64 - 1) ∙ min-eq_left h
 
 saturate_most : (n : ℕ) → u64_saturate n ≤ 2 ^ 64 - 1
 saturate_most n = omega arith
-
--- what is saturated at once is what is saturated twice
-saturate_twice : (a b : ℕ) → u64_saturate (u64_saturate a + b) ≡ u64_saturate (a + b)
-saturate_twice a b =
-    ⊎_elim
-    (λ (below : a < 2 ^ 64 - 1). ap (λ n. u64_saturate (n + b)) (saturate_below a (omega arith)))
-    (λ (above : 2 ^ 64 - 1 ≤ a).
-    ap (λ n. u64_saturate (n + b)) (saturate_above a above) ∙ saturate_above (2 ^ 64 - 1 + b) (omega arith) ∙ sym (saturate_above (a + b) (omega arith)))
-    (cases_lt a (2 ^ 64 - 1))
 
 pub counts_none : (n m : ℕ) → m ≡ n → CountsOn n m 0
 counts_none n m e = λ h. let same : n + 0 ≡ n = omega arith in e ∙ sym (ap u64_saturate same ∙ saturate_below n h)

@@ -10,7 +10,7 @@ use Rattle.kpn_model.specs.declared.token.Sort.{Sort}
 use Rattle.kpn_model.specs.declared.token.Token.{Token}
 use Rattle.kpn_model.specs.Valid.{IsOfSort}
 use Rattle.kpn_tokens.specs.declared.layouts.Layout.{Layout}
-use Rattle.hox_stream.specs.declared.cutting.Next.TheVariants.{Record}
+use Rattle.hox_stream.specs.declared.cutting.FirstRecord.TheVariants.{Record}
 use Rattle.hox_stream.specs.Cutting.{IsNext, Leads, Passes}
 use Rattle.hox_stream.specs.Gathering.{Gathers, LeadsOn, end_of}
 use Rattle.hox_stream.specs.Ports.{IsNotRead, Takes}

@@ -1,6 +1,6 @@
 -- Places of a list of channels, and what is paired with them.
-use Rattle.std.proofs.Common.{◌≡◌, ◌<◌, ◌++◌, ◌==◌, ℕ, zero, suc, Bool, true, false, List, [], ◌∷◌, length, map, take, get_or, refl, sym, ap, ◌∙◌, subst, arith, eq-eqb}
-use Rattle.std.proofs.lemmas.Bool.{or_parts}
+use Rattle.std.proofs.Common.{◌≡◌, ◌<◌, ◌++◌, ◌==◌, ℕ, zero, suc, true, false, List, [], ◌∷◌, length, map, take, get_or, refl, sym, ap, ◌∙◌, subst, arith, eq-eqb}
+use Rattle.std.proofs.lemmas.Bool.{both_ways, or_parts}
 use Rattle.std.proofs.lemmas.List.{map-append, take-append-le, take_all}
 use Rattle.std.proofs.lemmas.List.Folds.{list_any_at}
 use Rattle.std.specs.List.{zip}
@@ -19,16 +19,12 @@ written_back n new more e = take-append-le n new more (omega (arith, e)) ∙ tak
 among_at : (xs : List ℕ) (j : ℕ) → j < length xs → is_among xs (get_or xs j 0) ≡ true
 among_at xs j h = list_any_at (λ d. d == get_or xs j 0) xs j 0 h (eq-eqb (get_or xs j 0) (get_or xs j 0) refl)
 
-both : {A : Type 0} (b : Bool) → b ≡ false → b ≡ true → A
-both true e f = cc
-both false e f = cc
-
 -- if no channel stands in the list twice, places are told apart by their channels
 pub apart : (xs : List ℕ) → has_twice xs ≡ false → (j k : ℕ) → j < length xs → k < length xs → get_or xs j 0 ≡ get_or xs k 0 → j ≡ k
 apart [] once j k h i e = absurd (omega (arith, h))
 apart (x ∷ xs) once zero zero h i e = refl
-apart (x ∷ xs) once zero (suc k) h i e = both (is_among xs x) (or_parts (is_among xs x) (has_twice xs) once).0 (subst (λ y. is_among xs y ≡ true) (sym e) (among_at xs k (omega (arith, i))))
-apart (x ∷ xs) once (suc j) zero h i e = both (is_among xs x) (or_parts (is_among xs x) (has_twice xs) once).0 (subst (λ y. is_among xs y ≡ true) e (among_at xs j (omega (arith, h))))
+apart (x ∷ xs) once zero (suc k) h i e = absurd (both_ways (is_among xs x) (or_parts (is_among xs x) (has_twice xs) once).0 (subst (λ y. is_among xs y ≡ true) (sym e) (among_at xs k (omega (arith, i)))))
+apart (x ∷ xs) once (suc j) zero h i e = absurd (both_ways (is_among xs x) (or_parts (is_among xs x) (has_twice xs) once).0 (subst (λ y. is_among xs y ≡ true) e (among_at xs j (omega (arith, h)))))
 apart (x ∷ xs) once (suc j) (suc k) h i e = ap (λ n. suc n) (apart xs (or_parts (is_among xs x) (has_twice xs) once).1 j k (omega (arith, h)) (omega (arith, i)) e)
 
 module _ {K X : Type 0} where

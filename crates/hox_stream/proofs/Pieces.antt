@@ -12,7 +12,7 @@ use Rattle.kpn_tokens.specs.declared.layouts.Layout.TheVariants.{Lines, Fields, 
 use Rattle.kpn_tokens.specs.Records.{Begin, Fails, IsEnded, IsWhole, Say, first, later, listed, more, next, record_said, rest}
 use Rattle.kpn_tokens.specs.Rows.{is_line_feed}
 use Rattle.kpn_tokens.specs.Samples.{frame_size}
-use Rattle.hox_stream.specs.declared.cutting.Next.TheVariants.{Record}
+use Rattle.hox_stream.specs.declared.cutting.FirstRecord.TheVariants.{Record}
 use Rattle.hox_stream.specs.Cutting.{IsNext, Leads, Passes, has_record}
 
 -- ---- whether a record is there to its end

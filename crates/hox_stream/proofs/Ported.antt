@@ -9,7 +9,7 @@ use Rattle.kpn_model.specs.declared.token.Token.{Token}
 use Rattle.kpn_model.specs.declared.token.Sort.{Sort}
 use Rattle.kpn_tokens.specs.declared.layouts.Layout.{Layout}
 use Rattle.kpn_tokens.specs.Records.{listed, record_text}
-use Rattle.hox_stream.specs.declared.cutting.Next.TheVariants.{Record}
+use Rattle.hox_stream.specs.declared.cutting.FirstRecord.TheVariants.{Record}
 use Rattle.hox_stream.specs.Cutting.{IsNext, Passes}
 use Rattle.hox_stream.specs.Ports.{CountsOn, ReadsOn, Takes, Writes, are_written, clipped_of, written_of}
 use Rattle.hox_stream.specs.Views.{InletView, OutletView, unread}

@@ -1,7 +1,7 @@
 -- When a source is read.
 use Rattle.std.proofs.Common.{◌≡◌, ◌<◌, ◌≤◌, ◌&&◌, ◌⊎◌, inl, inr, ⊎_elim, ℕ, Bool, true, false, not, List, Option, Some, None, IfSome, IfNone, is_some, length, set, refl, sym, ap, ◌∙◌, subst, arith}
 use Rattle.std.specs.List.{list_any}
-use Rattle.std.proofs.lemmas.Bool.{cases_eq}
+use Rattle.std.proofs.lemmas.Bool.{both_ways, cases_eq}
 use Rattle.std.proofs.lemmas.List.{get_or-set_same, get_or-set_other}
 use Rattle.std.proofs.lemmas.List.Folds.{list_any_at}
 use Rattle.kpn_flow.specs.Flows.{FlowView}
@@ -55,13 +55,9 @@ wants_not p whole = wants_not_by p.is_over (has_record p.layout p.kept) (over_or
 pub over_wants_not : (p : InletView) → p.is_over ≡ true → wants_more p ≡ false
 over_wants_not p over = wants_not p (inl over)
 
-both : {A : Type 0} (b : Bool) → b ≡ false → b ≡ true → A
-both true e f = cc
-both false e f = cc
-
 -- it can't both want more and not
 pub never_wants : {A : Type 0} (p : InletView) → wants_more p ≡ false → wants_more p ≡ true → A
-never_wants p e f = both (wants_more p) e f
+never_wants p e f = absurd (both_ways (wants_more p) e f)
 
 -- a source that held no more than a record may have was read, if it was not left alone
 pub read_on : (p q : InletView) → length p.kept ≤ 4096 → IsRead p q ⊎ (4096 < length q.kept) → IsRead p q
@@ -99,7 +95,7 @@ none_wants : (ins : List InletView) → list_any wants_more ins ≡ false → (k
 none_wants ins none k within = by (wants_more (inlet_at ins k)) refl
   where
     by : (b : Bool) → wants_more (inlet_at ins k) ≡ b → b ≡ false
-    by true e = both (list_any wants_more ins) none (list_any_at wants_more ins k no_inlet within e)
+    by true e = absurd (both_ways (list_any wants_more ins) none (list_any_at wants_more ins k no_inlet within e))
     by false e = refl
 
 -- no source is read where none wants more

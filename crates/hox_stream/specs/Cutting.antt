@@ -12,9 +12,9 @@ use Rattle.kpn_tokens.specs.Rows.{is_line_feed}
 use Rattle.kpn_tokens.specs.Samples.{frame_size}
 use Rattle.hox_stream.specs.declared.cutting.Refusal.{Refusal}
 use Rattle.hox_stream.specs.declared.cutting.Refusal.TheVariants.{Fault, TooLong}
-use Rattle.hox_stream.specs.declared.cutting.Next.{Next}
-use Rattle.hox_stream.specs.declared.cutting.Told.{Told}
-use Rattle.hox_stream.specs.declared.cutting.Next.TheVariants.{Record, Refused, Wanting, Memory}
+use Rattle.hox_stream.specs.declared.cutting.FirstRecord.{FirstRecord}
+use Rattle.hox_stream.specs.declared.cutting.FirstToken.{FirstToken}
+use Rattle.hox_stream.specs.declared.cutting.FirstRecord.TheVariants.{Record, Refused, Wanting, Memory}
 
 -- whether the first record is complete
 abbrev pub has_record : Layout → List ℕ → Bool
@@ -29,7 +29,7 @@ IsRefused layout sort bytes last (Fault fault) =
 IsRefused layout sort bytes last TooLong = 4096 < length (first layout bytes)
 
 -- what these bytes begin with: a record, a rejected one, or no record yet; or out of memory
-abbrev pub IsNext : Layout → Sort → List ℕ → Bool → Next → Type 0
+abbrev pub IsNext : Layout → Sort → List ℕ → Bool → FirstRecord → Type 0
 IsNext layout sort bytes last (Record said used) =
     FirstSays layout sort bytes said × (0 < length bytes) × (drop used bytes ≡ rest layout bytes)
     × (used ≤ length bytes) × IsWhole layout bytes last × (length (first layout bytes) ≤ 4096)
@@ -38,7 +38,7 @@ IsNext layout sort bytes last Wanting = (IsEnded layout bytes → ⊥) × (lengt
 IsNext layout sort bytes last Memory = 0 < length bytes
 
 -- the first record has this token, of the sort, and this many bytes, whatever comes after it
-pub record IsTold (layout : Layout) (sort : Sort) (bytes : List ℕ) (told : Told) : Type 0 where
+pub record IsTold (layout : Layout) (sort : Sort) (bytes : List ℕ) (told : FirstToken) : Type 0 where
   pub next : (last : Bool) → IsNext layout sort bytes last (Record (Some told.token) told.used)
   pub sorted : IsOfSort sort told.token
 

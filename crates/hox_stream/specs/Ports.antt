@@ -12,7 +12,7 @@ use Rattle.kpn_flow.specs.Flows.{FlowView, IsSameFlow, is_among}
 use Rattle.kpn_flow.specs.Preloaded.{IsAtEnds}
 use Rattle.hox_stream.specs.declared.outlet.WriteFault.{WriteFault}
 use Rattle.hox_stream.specs.declared.outlet.WriteFault.TheVariants.{Failed, Misfit, Memory}
-use Rattle.hox_stream.specs.declared.cutting.Next.{Next}
+use Rattle.hox_stream.specs.declared.cutting.FirstRecord.{FirstRecord}
 use Rattle.hox_stream.specs.declared.cutting.Refusal.{Refusal}
 use Rattle.hox_stream.specs.Cutting.{IsNext, IsRefused, Passes, has_record}
 use Rattle.hox_stream.specs.Views.{InletView, OutletView, unread}
@@ -115,7 +115,7 @@ pub record IsNotRead (p q : InletView) : Type 0 where
   pub is_over : q.is_over ≡ p.is_over
 
 -- this comes next of a source; at its end there is no more
-pub record IsNextIn (p : InletView) (found : Next) : Type 0 where
+pub record IsNextIn (p : InletView) (found : FirstRecord) : Type 0 where
   pub next : IsNext p.layout p.sort p.kept p.is_over found
   pub at_end : p.is_over ≡ true → IsAtEnd p.remaining
 

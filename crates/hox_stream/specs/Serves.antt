@@ -14,6 +14,8 @@ use Rattle.kpn_flow.specs.Flows.{FlowView, is_among}
 use Rattle.kpn_flow.specs.Pieces.{IsOneRunInPieces}
 use Rattle.kpn_flow.specs.Preloaded.{IsAtEnds}
 use Rattle.hox_stream.specs.declared.finish.StreamFinish.{StreamFinish}
+use Rattle.hox_stream.specs.declared.serving.EndedStream.{EndedStream}
+use Rattle.hox_stream.specs.declared.serving.LaidEnds.{LaidEnds}
 use Rattle.hox_stream.specs.declared.serving.LaidOut.{LaidOut}
 use Rattle.hox_stream.specs.declared.serving.LaidTable.{LaidTable}
 use Rattle.hox_stream.specs.declared.finish.StreamFinish.TheVariants.{OtherSort}
@@ -103,3 +105,18 @@ module _ (kinds : Family) (s t : FlowView) where
     pub ended : IsFinish kinds t ins_after (outs after.sinks full) finish ⊎ IsFinish kinds t ins_after after finish
     pub sorts_fit : (k : ℕ) → finish ≢ OtherSort k
     pub one_run : IsOneRunInPieces kinds t
+
+-- the sinks and tables of a flow, before it is served
+abbrev outs_laid : {X Y : Type 0} → (Y → SinkView) → FlowView → LaidEnds X Y → OutsView
+outs_laid seen opened ends = new_outs seen opened.outputs ends.sinks.items ends.tables.items
+
+-- and when it has ended
+abbrev outs_left : {F X Y : Type 0} → EndedStream F X Y → OutsView
+outs_left ended = outs ended.outlets.items ended.tables.items
+
+module _ {F X Y : Type 0} (kinds : Family) (remaining : X → Option (List ℕ)) (has_failed : X → Bool) where
+  -- a flow was served between these ends, until it ended so
+  abbrev pub ServesEnds : (Y → SinkView) → FlowView → LaidEnds X Y → EndedStream F X Y → Type 0
+  ServesEnds seen opened ends ended =
+      Serves kinds opened ended.flow (flow_inlets remaining has_failed opened ends.sources.items) ended.inlets.items
+      (outs_laid seen opened ends) (outs_left ended) ended.finish

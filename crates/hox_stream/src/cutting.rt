@@ -24,7 +24,7 @@ pub enum Refusal {
 /// What some bytes begin with: a record of `used` bytes, with or without a token; a rejected record; or no
 /// whole record yet. Or out of memory.
 #[derive(Clone, Copy, Debug, PartialEq, Eq)]
-pub(crate) enum Next {
+pub(crate) enum FirstRecord {
     Record { said: Option<Token>, used: usize },
     Refused(Refusal),
     Wanting,
@@ -33,14 +33,14 @@ pub(crate) enum Next {
 
 /// The token of a record, and the record's length in bytes.
 #[derive(Clone, Copy, Debug, PartialEq, Eq)]
-pub(crate) struct Told {
+pub(crate) struct FirstToken {
     pub(crate) token: Token,
     pub(crate) used: usize,
 }
 
 /// Returns the token of the first record, if that is a whole line or frame with one; see [`next_of`] for the others.
 #[inline(always)]
-pub(crate) fn told_by(layout: &Layout, sort: Sort, bytes: &[u8]) -> Option<Told>
+pub(crate) fn told_by(layout: &Layout, sort: Sort, bytes: &[u8]) -> Option<FirstToken>
     ensures { IfSome result (IsTold layout.now sort bytes.now) }
 {
     match layout {
@@ -51,7 +51,7 @@ pub(crate) fn told_by(layout: &Layout, sort: Sort, bytes: &[u8]) -> Option<Told>
 }
 
 #[inline(always)]
-fn told_by_line(decimals: Decimals, sort: Sort, bytes: &[u8]) -> Option<Told>
+fn told_by_line(decimals: Decimals, sort: Sort, bytes: &[u8]) -> Option<FirstToken>
     ensures { IfSome result (IsTold (layouts.Lines decimals) sort bytes.now) }
 {
     match first_line(decimals, sort, bytes) {
@@ -61,7 +61,7 @@ fn told_by_line(decimals: Decimals, sort: Sort, bytes: &[u8]) -> Option<Told>
 }
 
 #[inline(always)]
-fn told_by_frame(frame: &Frame, sort: Sort, bytes: &[u8]) -> Option<Told>
+fn told_by_frame(frame: &Frame, sort: Sort, bytes: &[u8]) -> Option<FirstToken>
     ensures { IfSome result (IsTold (layouts.Frames frame.now) sort bytes.now) }
 {
     let size = frame.size();
@@ -72,12 +72,12 @@ fn told_by_frame(frame: &Frame, sort: Sort, bytes: &[u8]) -> Option<Told>
 }
 
 #[inline(always)]
-fn as_told(said: Result<Option<Token>, RecordFault>, used: usize) -> Option<Told>
+fn as_told(said: Result<Option<Token>, RecordFault>, used: usize) -> Option<FirstToken>
     ensures said { IfSome result (λ told. said ≡ Ok (Some told.token)) }
     ensures used { IfSome result (λ told. told.used ≡ used) }
 {
     match said {
-        Ok(Some(token)) => Some(Told { token, used }),
+        Ok(Some(token)) => Some(FirstToken { token, used }),
         _ => None,
     }
 }
@@ -89,31 +89,31 @@ pub(crate) fn next_of(
     sort: Sort,
     bytes: &[u8],
     is_last: bool,
-) -> Next
+) -> FirstRecord
     ensures { IsNext layout sort bytes.now is_last result }
 {
     if let Some(told) = told_by(&layout, sort, bytes) {
-        return Next::Record {
+        return FirstRecord::Record {
             said: Some(told.token),
             used: told.used,
         };
     }
     let Some(cut) = record_in(layout, bytes, is_last) else {
         return if bytes.len() > LONGEST_RECORD {
-            Next::Refused(Refusal::TooLong)
+            FirstRecord::Refused(Refusal::TooLong)
         } else {
-            Next::Wanting
+            FirstRecord::Wanting
         };
     };
     if cut.length > LONGEST_RECORD {
-        return Next::Refused(Refusal::TooLong);
+        return FirstRecord::Refused(Refusal::TooLong);
     }
     match token_of_record(alloc, layout, sort, &bytes[..cut.length]) {
-        Ok(Ok(said)) => Next::Record {
+        Ok(Ok(said)) => FirstRecord::Record {
             said,
             used: cut.used,
         },
-        Ok(Err(fault)) => Next::Refused(Refusal::Fault(fault)),
-        Err(_) => Next::Memory,
+        Ok(Err(fault)) => FirstRecord::Refused(Refusal::Fault(fault)),
+        Err(_) => FirstRecord::Memory,
     }
 }

@@ -5,7 +5,7 @@ ghost use Rattle.std.specs.Io.KnownBytes.{IsAtEnd};
 ghost use Rattle.hox_stream.specs.Views.{fresh_inlet};
 ghost use Rattle.hox_stream.specs.Ports.{IsNextIn, ReadsOn, wants_more, IsReadOrFull, with_records_taken};
 
-use crate::cutting::{LONGEST_RECORD, Next, next_of};
+use crate::cutting::{FirstRecord, LONGEST_RECORD, next_of};
 use crate::gathering::Kept;
 use kpn_front::Source;
 use kpn_tokens::{Layout, Sort, record_in};
@@ -20,7 +20,7 @@ const ROOM: usize = 8192;
 
 /// Why reading a source failed.
 #[derive(Clone, Copy, Debug, PartialEq, Eq)]
-pub(crate) enum ReadFault {
+pub(crate) enum RefillFault {
     Failed,
     Memory,
 }
@@ -127,7 +127,7 @@ impl<S: Source> Inlet<S> {
         &self.source
     }
 
-    pub(crate) fn next(&self, alloc: Global) -> Next
+    pub(crate) fn next(&self, alloc: Global) -> FirstRecord
         ensures { IsNextIn self.now result }
     {
         let bytes = &self.held[self.next..];
@@ -165,21 +165,21 @@ impl<S: Source> Inlet<S> {
     }
 
     /// Reads another piece, unless more bytes are held than a record may have. An error loses nothing that is held.
-    pub(crate) fn refill(&mut self, alloc: Global) -> Result<(), ReadFault>
+    pub(crate) fn refill(&mut self, alloc: Global) -> Result<(), RefillFault>
         ensures reads { ReadsOn self.old self.new }
         ensures read { self.old.is_over ≡ false → IfOk result (λ _. IsReadOrFull self.old self.new) }
-        ensures failed { result ≡ Err ReadFault.Failed → self.new.has_failed ≡ true }
+        ensures failed { result ≡ Err RefillFault.Failed → self.new.has_failed ≡ true }
     {
         if self.held.len() - self.next > LONGEST_RECORD {
             return Ok(());
         }
         let Ok(mut held) = with_room(alloc, &self.held[self.next..]) else {
-            return Err(ReadFault::Memory);
+            return Err(RefillFault::Memory);
         };
         let mut piece = [0; PIECE];
         self.is_over = false;
         let Ok(n) = self.source.read(&mut piece) else {
-            return Err(ReadFault::Failed);
+            return Err(RefillFault::Failed);
         };
         append(&mut held, &piece[..n]);
         self.held = held;

@@ -9,10 +9,10 @@ ghost use Rattle.hox_stream.specs.Ports.{IsNextIn, IsNotRead, IsReadOnce, Pours,
 ghost use Rattle.hox_stream.specs.Streams.{NoneIsWaitedFor, inlet_at, is_waited_for, NoneIsWaitedFrom};
 ghost use Rattle.hox_stream.specs.Turns.{IsTurnOf, PoursOne, TakesTurn};
 
-use crate::cutting::{Next, Refusal};
+use crate::cutting::{FirstRecord, Refusal};
 use crate::finish::StreamFinish;
 use crate::gathering::gather;
-use crate::inlet::{Inlet, ReadFault};
+use crate::inlet::{Inlet, RefillFault};
 use crate::serving::sort_of;
 use kpn_body::Body;
 use kpn_flow::Flow;
@@ -42,7 +42,7 @@ fn take_said<B: Body, S: Source>(
     said: Option<Token>,
     used: usize,
 ) -> bool
-    requires { IsNextIn inlet.old (Next.Record said used) }
+    requires { IsNextIn inlet.old (FirstRecord.Record said used) }
     ensures { PoursKept (family B.Kinds.Kinds) flow.old flow.new inlet.old inlet.new }
 {
     if !feed_said(flow, inlet.channel(), said) {
@@ -72,7 +72,7 @@ fn take_more<B: Body, S: Source>(alloc: Global, flow: &mut Flow<B>, inlet: &mut 
         }
         let taken = take_batch(flow, inlet, room);
         if taken == 0 {
-            let Next::Record { said, used } = inlet.next(alloc) else {
+            let FirstRecord::Record { said, used } = inlet.next(alloc) else {
                 return;
             };
             if !take_said(flow, inlet, said, used) {
@@ -149,7 +149,7 @@ fn pour<B: Body, S: Source>(
 {
     let channel = inlet.channel();
     match inlet.next(alloc) {
-        Next::Record { said, used } => {
+        FirstRecord::Record { said, used } => {
             if sort_of(flow.net(), channel) != inlet.sort() {
                 return Err(PourFault::OtherSort);
             }
@@ -159,9 +159,9 @@ fn pour<B: Body, S: Source>(
             take_more(alloc, flow, inlet);
             Ok(())
         }
-        Next::Refused(refusal) => Err(PourFault::Refused(refusal)),
-        Next::Memory => Err(PourFault::Memory),
-        Next::Wanting => {
+        FirstRecord::Refused(refusal) => Err(PourFault::Refused(refusal)),
+        FirstRecord::Memory => Err(PourFault::Memory),
+        FirstRecord::Wanting => {
             if inlet.is_over() {
                 flow.end_input(channel);
                 return Ok(());
@@ -171,8 +171,8 @@ fn pour<B: Body, S: Source>(
                     take_more(alloc, flow, inlet);
                     Ok(())
                 }
-                Err(ReadFault::Failed) => Err(PourFault::Failed),
-                Err(ReadFault::Memory) => Err(PourFault::Memory),
+                Err(RefillFault::Failed) => Err(PourFault::Failed),
+                Err(RefillFault::Memory) => Err(PourFault::Memory),
             }
         }
     }

@@ -2,8 +2,7 @@
 ghost use Rattle.std.specs.Prelude.{◌≡◌, IfOk};
 ghost use Rattle.kpn_model.specs.Network.{channel_of};
 ghost use Rattle.kpn_model.specs.Families.{family};
-ghost use Rattle.hox_stream.specs.Serves.{Serves, new_inlets, new_outs, laid_inlet, flow_inlets};
-ghost use Rattle.hox_stream.specs.Views.{outs};
+ghost use Rattle.hox_stream.specs.Serves.{ServesEnds, new_inlets, new_outs, laid_inlet, flow_inlets};
 
 use crate::finish::StreamFinish;
 use crate::inlet::Inlet;
@@ -75,14 +74,14 @@ pub fn serve<F: Computes, I: Source + Drop, O: Sink + Drop, L: Onlooker>(
     ends: LaidEnds<I, O>,
     onlooker: &L,
 ) -> Result<EndedStream<F, I, O>, AllocError>
-    ensures { IfOk result (λ r. Serves (family F.Kinds) opened r.flow (new_inlets I.remaining I.has_failed opened.network opened.inputs ends.sources.items) r.inlets.items (new_outs O.seen opened.outputs ends.sinks.items ends.tables.items) (outs r.outlets.items r.tables.items) r.finish) }
+    ensures { IfOk result (λ r. ServesEnds (family F.Kinds) I.remaining I.has_failed O.seen opened ends r) }
 {
     let LaidEnds {
         sources,
         sinks,
         tables,
     } = ends;
-    let Ports {
+    let StreamPorts {
         mut inlets,
         mut outs,
     } = ports_of(alloc, &opened, sources, sinks, tables)?;
@@ -102,8 +101,9 @@ pub fn serve<F: Computes, I: Source + Drop, O: Sink + Drop, L: Onlooker>(
     })
 }
 
+/// What a stream reads from, and what it writes to.
 #[derive(Drop)]
-struct Ports<I: Source, O: Sink> {
+struct StreamPorts<I: Source, O: Sink> {
     inlets: Vec<Inlet<I>>,
     outs: Outs<O>,
 }
@@ -114,12 +114,12 @@ fn ports_of<F: Computes, I: Source + Drop, O: Sink + Drop>(
     sources: Vec<LaidOut<I>>,
     sinks: Vec<LaidOut<O>>,
     tables: Vec<LaidTable<O>>,
-) -> Result<Ports<I, O>, AllocError>
+) -> Result<StreamPorts<I, O>, AllocError>
     ensures inlets { IfOk result (λ r. r.inlets.items ≡ flow_inlets I.remaining I.has_failed opened.now sources.items) }
     ensures outs { IfOk result (λ r. r.outs ≡ new_outs O.seen opened.now.outputs sinks.items tables.items) }
 {
     let net = opened.flow.net();
-    Ok(Ports {
+    Ok(StreamPorts {
         inlets: inlets_of(alloc, net, opened.inputs.as_slice(), sources)?,
         outs: outs_of(alloc, opened.outputs.as_slice(), sinks, tables)?,
     })

@@ -16,6 +16,9 @@ use std::{error, fmt};
 /// The greatest number of workers of a run.
 pub const MAX_WORKERS: usize = 16;
 
+/// The version of the programs.
+pub const VERSION: &str = "0.1.0";
+
 /// The exit statuses, as help lists them.
 const STATUSES: &str = "\
 Exit status:
@@ -191,7 +194,7 @@ fn bare_command<'a>(alloc: Global) -> Command<'a>
     Command::new(alloc, "kpn")
         .about("Runs Kahn process networks in bounded memory")
         .after_help(STATUSES)
-        .version("0.1.0")
+        .version(VERSION)
         .disable_help_subcommand(true)
         .subcommand_required(true)
 }

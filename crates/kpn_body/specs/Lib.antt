@@ -1,4 +1,3 @@
 pub mod Equal
 pub mod Calls
 pub mod Input
-pub mod StandardKinds

@@ -10,8 +10,8 @@ use kpn_model::{Answer, Card, Kinds, Local, Token};
 /// in any thread.
 ///
 /// A type that stores boxed closures serves one family, because it keeps facts about that family's answers
-/// beside them: `StandardBody` serves the standard kinds. A type that stores none may serve many: `CardBody`
-/// of `kpn_compute` serves all families with a plain function that answers.
+/// beside them: `StandardBody` of `kpn_standard` serves the standard kinds. A type that stores none may serve
+/// many: `CardBody` of `kpn_compute` serves all families with a plain function that answers.
 pub trait Body: Send + Drop {
     ghost use Rattle.kpn_model.specs.declared.kinds.Card.{Card};
 

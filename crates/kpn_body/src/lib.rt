@@ -22,14 +22,8 @@
 
 pub mod answered;
 pub mod body;
-pub mod standard;
 pub mod task;
 
 pub use answered::Answered;
 pub use body::Body;
-pub use kpn_standard::{
-    Standard, add, answer, copy, count, divides, merge, prefix, scale, select, sink, switch, take,
-    weave,
-};
-pub use standard::{Call, StandardBody, by_words};
 pub use task::{Finished, Task};

@@ -30,7 +30,7 @@ each_back form value one (x ∷ xs) = rw (one x, each_back form value one xs) re
 integers_back : (zs : List ℤ) → each as_integer (items_of (map integer zs)) ≡ Some zs
 integers_back = each_back as_integer integer (λ z. refl)
 
--- the same of items that pass a test, where these are read back
+-- items that pass a test are read back, if each that passes it is
 each_passed_back :
     {A : Type 0} (form : Data → Option A) (value : A → Data) (test : A → Bool) → ((x : A) → test x ≡ true → form (value x) ≡ Some x) → (xs : List A) → list_all test xs ≡ true → each form (items_of (map value xs)) ≡ Some xs
 each_passed_back form value test one [] passed = refl

@@ -11,6 +11,7 @@ use Rattle.kpn_model.specs.Network.{Network, Family, in_of, out_of}
 use Rattle.kpn_model.specs.Semantics.{State, tokens, capacity, IsPossible, IsDeed, after_deed}
 use Rattle.kpn_laws.proofs.States.{in_of-reader, out_of-writer}
 use Rattle.kpn_laws.proofs.Transitions.{capacity_after}
+use Rattle.kpn_laws.proofs.EachMoment.{deed_possible}
 use Rattle.kpn_state.specs.Standings.{partner}
 
 -- the deed is on channel c
@@ -50,10 +51,7 @@ module _ (kinds : Family) (net : Network) where
       let short : length (tokens (after_deed kinds net M p next d) can.0) < capacity (after_deed kinds net M p next d) can.0 = can.2 in
       (can.0, can.1, omega arith)
 
-  -- what comes to a deed is possible, and on its channel
-  pub deed_possible : (M : State) (p : ℕ) (x : Act) (d : Deed) → IsDeed kinds net M p x d → IsPossible kinds net M p x
-  deed_possible M p x d h = grind arith
-
+  -- what comes to a deed is on its channel
   deed_on : (M : State) (p : ℕ) (x : Act) (d : Deed) (c : ℕ) → IsDeed kinds net M p x d → Touches d c → IsOn net p x c
   deed_on M p x d c h on = grind arith
 
@@ -83,7 +81,7 @@ module _ (kinds : Family) (net : Network) where
       on_channel e c ie pe at =
           ⊎_elim
           (λ on. ⊎_elim (λ (s : p ≡ q). absurd (ne (cc))) (λ (s : partner net e ≡ Some p). cc) (at_an_end (after_deed kinds net M p a.next d) q x e p c a.act ie (deed_on M p a.act d c is on) at))
-          (λ off. absurd (cant (possible_off M p a.next d q x (λ b at_b on. off (subst (λ y. Touches d y) (is_on_one net q x b c at_b (deed_on (after_deed kinds net M p a.next d) q x e c ie at)) on)) (deed_possible (after_deed kinds net M p a.next d) q x e ie))))
+          (λ off. absurd (cant (possible_off M p a.next d q x (λ b at_b on. off (subst (λ y. Touches d y) (is_on_one net q x b c at_b (deed_on (after_deed kinds net M p a.next d) q x e c ie at)) on)) (deed_possible kinds net (after_deed kinds net M p a.next d) q x e ie))))
           (touches_or_not d c)
 
       by_deed : (e : Deed) → IsDeed kinds net (after_deed kinds net M p a.next d) q x e → partner net e ≡ Some r → r ≡ p

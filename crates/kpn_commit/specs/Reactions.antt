@@ -45,7 +45,7 @@ module _ (kinds : Family) (admits : Admits) (net : Network) where
     pub wants : wants kinds net s.state p ≡ Some a
     pub room : length s.history < s.limit
 
-  -- no parked process can continue, except perhaps the one at the other end of the deed's channel
+  -- the standings fit the state, but the process at the other end of the deed's channel may be able to continue
   abbrev pub FitButPartner : State → List Standing → Deed → Type 0
   FitButPartner M standings d = StandingsFit kinds admits net (partner net d) M standings
 

@@ -15,10 +15,10 @@ of_three P (x ∷ y ∷ []) three words holds = absurd (omega (arith, three))
 of_three P (x ∷ y ∷ z ∷ []) three words holds = holds x y z (words 0 0 (omega arith)) (words 1 0 (omega arith)) (words 2 0 (omega arith))
 of_three P (x ∷ y ∷ z ∷ u ∷ us) three words holds = absurd (omega (arith, three))
 
-each_card : (P : Card → Type 0) → OfEachCard P → (card : Card) → CardFits card → P card
+pub each_card : (P : Card → Type 0) → OfEachCard P → (card : Card) → CardFits card → P card
 each_card P holds card fits = of_three (λ args. P (record { kind = card.kind; args = args })) card.args fits.three fits.args (λ x y z. holds card.kind x y z fits.kind)
 
-all_kept : (P : List ℕ → Type 0) → OfAllKept P → (kept : List ℕ) → AreKept kept → P kept
+pub all_kept : (P : List ℕ → Type 0) → OfAllKept P → (kept : List ℕ) → AreKept kept → P kept
 all_kept P holds [] words = absurd words
 all_kept P holds (a ∷ []) words = absurd words
 all_kept P holds (a ∷ b ∷ []) words = absurd words

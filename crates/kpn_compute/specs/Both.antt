@@ -55,8 +55,8 @@ MeansOwn first own (Some meant) =
 abbrev pub MeansOwnAlone : Bool → Option (ℕ × ℕ) → Option (ℕ × ℕ) → ℕ × ℕ → Type 0
 MeansOwnAlone first other meant own = other ≡ None → own.0 < 2 ^ 15 - 1 → MeansOwn first own meant
 
--- a name that both families have is refused
 module _ (first_ports second_ports : Card → Option Signature) (first second meant : Option (ℕ × ℕ)) where
+  -- a name that both families have is refused
   abbrev pub IsSharedRefused : Type 0
   IsSharedRefused = IsSome first → IsSome second → IsNameRefused (both_ports first_ports second_ports) meant
 

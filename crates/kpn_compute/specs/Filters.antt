@@ -7,7 +7,7 @@ use Rattle.kpn_model.specs.declared.kinds.Signature.{Signature}
 use Rattle.kpn_model.specs.declared.kinds.Act.TheVariants.{Read, Write}
 use Rattle.kpn_model.specs.declared.kinds.Answer.{Answer}
 use Rattle.kpn_model.specs.Network.{Family}
-use Rattle.kpn_standard.specs.Table.{one_word}
+use Rattle.kpn_compute.specs.KindTable.{one_word}
 
 abbrev pub ports_if : Bool → Option Signature
 ports_if accepted = if accepted then Some (record { ins = one_word; outs = one_word }) else None

@@ -2,7 +2,6 @@
 ghost use Rattle.std.specs.Prelude.{◌≡◌, IsSome};
 
 use kpn_model::{Answer, Card, Kinds, Local, Token};
-use kpn_standard::{Standard, answer};
 
 /// A family with a function that answers for all its cards. Its bodies are only cards (`CardBody`), and
 /// `bodies_of` makes those of a network.
@@ -13,11 +12,4 @@ pub trait Computes: Kinds {
         requires signed { IsSome (Self.signature card) }
         requires admitted { Self.admits card local last }
         ensures { result ≡ Self.answer_of card local last };
-}
-
-impl Computes for Standard {
-    #[inline(always)]
-    fn answer(card: Card, local: Local, last: Option<Token>) -> Answer {
-        answer(card, local, last)
-    }
 }

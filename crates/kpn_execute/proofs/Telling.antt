@@ -1,17 +1,16 @@
 -- What is written of a run.
-use Rattle.std.proofs.Common.{◌≡◌, ◌≢◌, ◌++◌, ℕ, zero, suc, true, List, length, Option, Some, replicate, refl, sym, ap, ◌∙◌, subst}
+use Rattle.std.proofs.Common.{◌≡◌, ◌≢◌, ℕ, zero, suc, true, List, length, Option, Some, replicate, refl, ap, ◌∙◌, subst}
 use Rattle.std.proofs.lemmas.List.{length-map}
 use Rattle.std.specs.List.{count_by}
 use Rattle.kpn_model.specs.declared.kinds.Card.{Card}
-use Rattle.kpn_model.specs.declared.history.Entry.{Entry}
 use Rattle.kpn_model.specs.declared.history.End.{End}
 use Rattle.kpn_model.specs.declared.history.End.TheVariants.{Terminated, Deadlock, Ceiling, Budget, Memory}
 use Rattle.kpn_model.specs.declared.history.Place.{Place}
-use Rattle.kpn_model.specs.Network.{Family, Network, Admits}
-use Rattle.kpn_model.specs.Semantics.{State, wants}
-use Rattle.kpn_model.specs.Endings.{IsOver, MayEnd, MayStand, IsFinal}
+use Rattle.kpn_model.specs.Network.{Family, Admits}
+use Rattle.kpn_model.specs.Semantics.{wants}
+use Rattle.kpn_model.specs.Endings.{MayEnd, MayStand}
 use Rattle.kpn_model.specs.texts.Reports.{has_report}
-use Rattle.kpn_model.specs.History.{Digest, digest, each_process, place_of}
+use Rattle.kpn_model.specs.History.{each_process, place_of}
 use Rattle.kpn_model.specs.Determinacy.{OneDigest}
 use Rattle.kpn_state.specs.declared.standing.Standing.TheVariants.{Ready}
 use Rattle.kpn_state.specs.Standings.{standing, is_out, parked_answer}
@@ -23,27 +22,11 @@ use Rattle.kpn_machine.specs.Opening.{cards_of, IsOpenFault}
 use Rattle.kpn_run.proofs.RunReports.{at_rest, is_final}
 use Rattle.kpn_laws.specs.RoomOfRun.{TakesLeastRoom}
 use Rattle.kpn_laws.specs.StreamsOfRun.{ApproachLeastSolution}
-use Rattle.kpn_report.specs.Text.{end_line, digest_text, report_text}
+use Rattle.kpn_report.specs.Text.{report_text}
+use Rattle.kpn_report.proofs.OverTexts.{one_text}
 use Rattle.kpn_front.specs.declared.status.ExitStatus.{ExitStatus}
 use Rattle.kpn_front.specs.declared.status.ExitStatus.TheVariants.{WriteFailed}
 use Rattle.kpn_execute.specs.Execution.{status_of_end, TellsRun}
-
-module _ (kinds : Family) (net : Network) where
-  -- the text of a run that is over, from its digest
-  abbrev text_of : Option ℕ → Digest → List ℕ
-  text_of channel d = end_line d.cause ++ digest_text net d channel
-
-  over_text : (cause : End) (E : List Entry) (M : State) (channel : Option ℕ) → IsOver kinds net M cause → report_text kinds net cause E M channel ≡ text_of channel (digest kinds net cause E M)
-  over_text Terminated E M channel over = refl
-  over_text Deadlock E M channel over = refl
-  over_text Ceiling E M channel over = refl
-  over_text Budget E M channel over = elim over [ ]
-  over_text Memory E M channel over = elim over [ ]
-
-  -- two runs that are over have one text
-  one_text : OneDigest kinds → (E F : List Entry) (M N : State) (a b : End) (channel : Option ℕ) → IsFinal kinds net E M a → IsFinal kinds net F N b → report_text kinds net a E M channel ≡ report_text kinds net b F N channel
-  one_text one E F M N a b channel e f =
-      over_text a E M channel e.over ∙ ap (text_of channel) (one net E F M N a b e f) ∙ sym (over_text b F N channel f.over)
 
 -- an end is justified
 pub justified_by : (kinds : Family) (admits : Admits) (s : MachineView) (cause : End) → IsFaithful kinds admits s → s.end ≡ Some cause → MayEnd kinds s.network s.history s.state cause

@@ -3,7 +3,7 @@ use Rattle.std.specs.Prelude.{ℕ, IfSome}
 use Rattle.kpn_model.specs.declared.kinds.Card.{Card}
 use Rattle.kpn_standard.specs.Standard.{standard}
 use Rattle.kpn_body.specs.Calls.{Answers, MayReturn}
-use Rattle.kpn_body.specs.StandardKinds.{Admitted}
+use Rattle.kpn_standard.specs.Admitted.{Admitted}
 use Rattle.kpn_front.specs.Written.{SinkView}
 use Rattle.kpn_execute.specs.declared.standard.CardsRequest.{CardsRequest}
 use Rattle.kpn_execute.specs.Execution.{Executes, name_shown}

@@ -7,10 +7,10 @@ ghost use Rattle.kpn_execute.specs.Program.{TellsOf, SaysRefused, Serving};
 
 use crate::standard::execute_standard;
 use kpn_args::{Choice, WordsFault, read_words};
-use kpn_body::Standard;
 use kpn_front::{Refused, Sink, Source, load_or_refuse, say_checked, say_refused};
 use kpn_message::message_of;
 use kpn_net::{Net, NetFault};
+use kpn_standard::Standard;
 use std::alloc::Global;
 use std::rt::Clock;
 use std::sync::Wait;

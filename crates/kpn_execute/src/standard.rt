@@ -1,23 +1,22 @@
 //! Networks of standard kinds.
 ghost use Rattle.std.specs.Prelude.{◌≡◌, ◌<◌, All, IsSome, IfOk, MatchOption, OnErr, Some, length, slice_get};
 ghost use Rattle.kpn_standard.specs.Standard.{standard};
-ghost use Rattle.kpn_standard.specs.Signatures.{card_of_kind};
+ghost use Rattle.kpn_standard.specs.Signatures.{card_of_kind, signature};
 ghost use Rattle.kpn_standard.specs.Table.{row_of};
+ghost use Rattle.kpn_standard.specs.Admitted.{Admitted};
 ghost use Rattle.kpn_body.specs.Calls.{IsCallable};
-ghost use Rattle.kpn_body.specs.StandardKinds.{signature, Admitted};
 ghost use Rattle.kpn_machine.specs.Opening.{cards_of};
 ghost use Rattle.kpn_execute.specs.StandardRequests.{AnswersAs, ExecutesRequest};
 ghost use Rattle.kpn_execute.specs.Execution.{MakesAndExecutes, name_shown};
 
 use crate::execution::execute;
-use kpn_body::{
-    Call, Standard, StandardBody, add, by_words, copy, count, divides, merge, prefix, scale,
-    select, sink as standard_sink, switch, take, weave,
-};
 use kpn_front::{Sink, say_refused};
 use kpn_machine::cards_of;
 use kpn_net::{Answer, Card, Local, Net, NetFault, Token};
-use kpn_standard::Kind;
+use kpn_standard::{
+    Call, Kind, Standard, StandardBody, add, by_words, copy, count, divides, merge, prefix, scale,
+    select, sink as standard_sink, switch, take, weave,
+};
 use std::alloc::{AllocError, Global};
 use std::rt::Clock;
 use std::sync::Wait;

@@ -12,7 +12,7 @@ use Rattle.kpn_flow.specs.Preloaded.{preload, preloaded, without_growths, all_fe
 use Rattle.kpn_flow.specs.Pieces.{IsOneRunWithStreams, IsWay, PiecesAreComparable}
 use Rattle.kpn_flow.proofs.Untaken.{one_run}
 
--- the same further tokens
+-- two loads of equal tokens make one network
 pub preload_same : (ls : List Channel) (more most : ℕ → List Token) (sizes : ℕ → ℕ) → ((c : ℕ) → more c ≡ most c) → preload ls more sizes ≡ preload ls most sizes
 preload_same [] more most sizes e = refl
 preload_same (l ∷ ls) more most sizes e =

@@ -15,20 +15,14 @@ growths_both [] F = omega arith
 growths_both (Did p d ∷ E) F = growths_both E F
 growths_both (Grew c to ∷ E) F = let h = growths_both E F in omega arith
 
--- growths are entries
-pub few_growths : (E : List Entry) → length (growths E) ≤ length E
-few_growths [] = omega arith
-few_growths (Did p d ∷ E) = let h = few_growths E in omega arith
-few_growths (Grew c to ∷ E) = let h = few_growths E in omega arith
-
-saturate_below : (n : ℕ) → n ≤ 2 ^ 64 - 1 → u64_saturate n ≡ n
+pub saturate_below : (n : ℕ) → n ≤ 2 ^ 64 - 1 → u64_saturate n ≡ n
 saturate_below n h = min-eq_left h
 
 saturate_above : (n : ℕ) → 2 ^ 64 - 1 ≤ n → u64_saturate n ≡ 2 ^ 64 - 1
 saturate_above n h = min_comm n (2 ^ 64 - 1) ∙ min-eq_left h
 
 -- what is saturated at once is what is saturated twice
-saturate_twice : (a b : ℕ) → u64_saturate (u64_saturate a + b) ≡ u64_saturate (a + b)
+pub saturate_twice : (a b : ℕ) → u64_saturate (u64_saturate a + b) ≡ u64_saturate (a + b)
 saturate_twice a b =
     ⊎_elim
     (λ (below : a < 2 ^ 64 - 1). ap (λ n. u64_saturate (n + b)) (saturate_below a (omega arith)))

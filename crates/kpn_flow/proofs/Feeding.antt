@@ -107,7 +107,7 @@ module _ (kinds : Family) (net : Network) (ins outs : ℕ → Bool) (later : ℕ
       record { state = g.state; run = (x.0, x.1, g.run); ahead = g.ahead }
   goes (Went (Did p (Put b t)) ∷ xs) M N L out f r a none room =
       let at = put_within kinds net M p b t f.0 f.1 in
-      let one : length (put_on (entries_of (Went (Did p (Put b t)) ∷ xs)) b) ≡ length (put_on (entries_of xs) b) + 1 = ap (λ y. length (cond y (t ∷ put_on (entries_of xs) b) (put_on (entries_of xs) b))) (eq-eqb b b refl) ∙ (omega arith) in
+      let one : length (put_on (entries_of (Went (Did p (Put b t)) ∷ xs)) b) ≡ length (put_on (entries_of xs) b) + 1 = ap (λ y. length (cond y (t ∷ []) [] ++ put_on (entries_of xs) b)) (eq-eqb b b refl) ∙ (omega arith) in
       let x = does_put kinds net out (todo xs) M N a p b t f.0 (none_to_come xs b r.1 r.0) (let was = room b at in omega arith) f.1 in
       let g = goes xs f.0 x.0 L out f.2 r.1 x.2 none
       (λ c h. ⊎_elim
@@ -117,7 +117,7 @@ module _ (kinds : Family) (net : Network) (ins outs : ℕ → Bool) (later : ℕ
       let now = ap (λ (l : List Token). length l) (x.3 c ne) in
       let size = x.5 c in
       let was = room c h in
-      let same : length (put_on (entries_of (Went (Did p (Put b t)) ∷ xs)) c) ≡ length (put_on (entries_of xs) c) = ap (λ y. length (cond y (t ∷ put_on (entries_of xs) c) (put_on (entries_of xs) c))) (ne_eqb b c (λ s. ne (sym s))) in
+      let same : length (put_on (entries_of (Went (Did p (Put b t)) ∷ xs)) c) ≡ length (put_on (entries_of xs) c) = ap (λ y. length (cond y (t ∷ []) [] ++ put_on (entries_of xs) c)) (ne_eqb b c (λ s. ne (sym s))) in
       omega arith) (cases_eq c b)) in
       record { state = g.state; run = (x.0, x.1, g.run); ahead = g.ahead }
   goes (Fed b t ∷ xs) M N L out f r a none room =

@@ -1,11 +1,11 @@
 -- How a flow stands, by the standings of its processes.
-use Rattle.std.proofs.Common.{◌≡◌, ℕ, true, false, List, arith}
+use Rattle.std.proofs.Common.{◌≡◌, ℕ, true, false, List}
 use Rattle.std.specs.List.{list_any, list_all}
 use Rattle.kpn_model.specs.declared.history.End.TheVariants.{Terminated, Deadlock}
 use Rattle.kpn_model.specs.Network.{Network, Family, Admits}
-use Rattle.kpn_model.specs.Semantics.{State, wants}
+use Rattle.kpn_model.specs.Semantics.{State}
 use Rattle.kpn_state.specs.declared.standing.Standing.{Standing}
-use Rattle.kpn_state.specs.Standings.{standing, is_busy, has_stopped, parked_answer, StandingsFit}
+use Rattle.kpn_state.specs.Standings.{is_busy, has_stopped, StandingsFit}
 use Rattle.std.specs.Prelude.{None}
 use Rattle.kpn_commit.proofs.Idle.{idle_quiet, all_done, some_live}
 use Rattle.kpn_flow.specs.declared.pause.Pause.{Pause}
@@ -14,11 +14,6 @@ use Rattle.kpn_flow.specs.Pauses.{IsRest, NoneCanHelp}
 use Rattle.kpn_flow.specs.Stands.{IsStand}
 use Rattle.kpn_flow.specs.Waits.{waits_to_read}
 use Rattle.kpn_flow.proofs.Waiting.{exhausted}
-
-module _ {kinds : Family} {admits : Admits} where
-  -- a process that is neither ready nor out wants what it answered
-  pub idle_wants : {net : Network} {M : State} {l : List Standing} → StandingsFit kinds admits net None M l → (p : ℕ) (x : Standing) → standing l p ≡ x → is_busy x ≡ false → wants kinds net M p ≡ parked_answer x
-  idle_wants k p x e idle = grind (arith, k.wanted p, k.stopped p)
 
 module _ (kinds : Family) (admits : Admits) (net : Network) (inputs outputs : List ℕ) (M : State) (standings : List Standing) (k : StandingsFit kinds admits net None M standings) where
   -- a flow at rest stands so

@@ -21,7 +21,7 @@ taken_none : (ins outs : ℕ → Bool) (xs : List Event) (c : ℕ) → Respects 
 taken_none ins outs [] c r e = refl
 taken_none ins outs (Went (Did p (Put b t)) ∷ xs) c r e = taken_none ins outs xs c r.1 e
 taken_none ins outs (Went (Did p (Took b t)) ∷ xs) c r e =
-    ap (λ y. cond y (t ∷ taken (without_growths (entries_of xs)) c) (taken (without_growths (entries_of xs)) c)) (ne_eqb b c (λ s. true_false (outs c) e (ap outs (sym s) ∙ r.0)))
+    ap (λ y. cond y (t ∷ []) [] ++ taken (without_growths (entries_of xs)) c) (ne_eqb b c (λ s. true_false (outs c) e (ap outs (sym s) ∙ r.0)))
     ∙ taken_none ins outs xs c r.1 e
 taken_none ins outs (Went (Did p Stopped) ∷ xs) c r e = taken_none ins outs xs c r e
 taken_none ins outs (Went (Grew b to) ∷ xs) c r e = taken_none ins outs xs c r e

@@ -12,6 +12,7 @@ use Rattle.kpn_state.specs.declared.standing.Standing.{Standing}
 use Rattle.kpn_state.specs.Standings.{standing, parked_answer}
 use Rattle.kpn_commit.specs.declared.cores.Core.{Core}
 use Rattle.kpn_flow.specs.declared.counts.Counts.{Counts}
+use Rattle.kpn_flow.specs.declared.open_net.OpenNet.{OpenNet}
 use Rattle.kpn_flow.specs.declared.pause.Pause.{Pause}
 use Rattle.kpn_flow.specs.declared.pause.Pause.TheVariants.{Cut, Starved, Blocked, Over}
 use Rattle.kpn_flow.specs.Flows.{FlowView, is_among, counted}
@@ -111,8 +112,8 @@ StarvesReader kinds s c = IsStarving kinds s.network s.state (channel_of s.netwo
 abbrev pub BlocksWriter : Family → FlowView → ℕ → Type 0
 BlocksWriter kinds s c = IsBlocked kinds s.network s.state (channel_of s.network c).writer c
 
-module _ {H : Type 0} (kinds : Family) (net : Network) (inputs outputs : List ℕ) where
+module _ {K H : Type 0} (kinds : Family) (opened : OpenNet K) where
   -- the core goes on so far, with these counts, and returns for this reason
   abbrev pub CoreAdvances : Counts → Counts → Core H → Core H → ℕ → Pause → Type 0
-  CoreAdvances before after core moved most pause =
-      Advances kinds net inputs outputs before after core.store.state moved.store.state most pause
+  CoreAdvances before after core moved =
+      Advances kinds opened.net.now opened.inputs.now opened.outputs.now before after core.store.state moved.store.state

@@ -7,6 +7,7 @@ use Rattle.kpn_model.specs.Network.{Family, Network, Admits}
 use Rattle.kpn_state.specs.declared.standing.Standing.TheVariants.{Ready}
 use Rattle.kpn_state.specs.Standings.{standing}
 use Rattle.kpn_commit.specs.declared.cores.Core.{Core}
+use Rattle.kpn_flow.specs.declared.open_net.OpenNet.{OpenNet}
 use Rattle.kpn_flow.specs.declared.pause.Pause.{Pause}
 use Rattle.kpn_flow.specs.Flows.{IsSettled, HasAllBodies}
 use Rattle.kpn_flow.specs.Pauses.{OpenRun, IsRest, TellWants}
@@ -40,7 +41,8 @@ module _ {X H : Type 0} (kinds : KindsOf X) (net : Network) where
   MayStretchFrom core card bodies again until =
       MayStretch (family kinds) kinds.admits net core (map (option_map card) bodies) again until
 
+module _ {X K H : Type 0} (kinds : KindsOf X) (opened : OpenNet K) where
   -- one stretch from one core to another
-  abbrev pub StretchesTo : List ℕ → List ℕ → Core H → ℕ → Option Pause → Core H → Type 0
-  StretchesTo inputs outputs core most pause moved =
-      Stretches (family kinds) kinds.admits net inputs outputs core most pause moved
+  abbrev pub StretchesTo : Core H → ℕ → Option Pause → Core H → Type 0
+  StretchesTo core most pause moved =
+      Stretches (family kinds) kinds.admits opened.net.now opened.inputs.now opened.outputs.now core most pause moved

@@ -8,7 +8,7 @@ ghost use Rattle.kpn_flow.specs.Flows.{is_among, without};
 
 use kpn_body::Body;
 use kpn_machine::OpenFault;
-use kpn_machine::opening::misfit;
+use kpn_machine::opening::bodies_fault;
 use kpn_model::{Act, Kinds};
 use kpn_network::Net;
 
@@ -166,7 +166,7 @@ pub(crate) fn fault_of<B: Body>(
     ensures cards { IfNone result (map B.card bodies.now ≡ cards_of net.now.processes) }
     ensures none { IfNone result (fault_at B.Kinds.Kinds net.now B.card bodies.now inputs.now outputs.now ≡ None) }
 {
-    match misfit(net, bodies) {
+    match bodies_fault(net, bodies) {
         Some(OpenFault::Bodies) => Some(FlowFault::Bodies),
         Some(OpenFault::Card) => Some(FlowFault::Card),
         Some(OpenFault::Memory) => end_fault(&Staffed { net, bodies }, inputs, outputs),

@@ -17,6 +17,7 @@ ghost use Rattle.kpn_flow.specs.Waits.{starves, holds_up, waits_to_read};
 use crate::counts::Counts;
 use crate::ends::{FlowFault, fault_of, is_among, remove};
 use crate::going::{ROOM, go_on};
+use crate::open_net::OpenNet;
 use crate::opening::{Lists, lists_of};
 use crate::pause::Pause;
 use crate::stand::stand;
@@ -320,12 +321,15 @@ impl<B: Body> Flow<B> {
         ensures advances { FlowAdvances (family B.Kinds.Kinds) self.old self.new most result }
         ensures told { TellWants (family B.Kinds.Kinds) self.new.network self.new.state self.new.standings result }
     {
+        let opened = OpenNet {
+            net: &self.net,
+            inputs: self.unended.as_slice(),
+            outputs: self.outputs.as_slice(),
+        };
         go_on(
-            &self.net,
+            &opened,
             &mut self.core,
             self.bodies.as_slice(),
-            self.unended.as_slice(),
-            self.outputs.as_slice(),
             &mut self.counts,
             most,
         )

@@ -5,11 +5,11 @@ ghost use Rattle.kpn_flow.specs.Flows.{IsSettled, HasAllBodies};
 ghost use Rattle.kpn_flow.specs.Pauses.{TellWants, CoreAdvances};
 
 use crate::counts::Counts;
+use crate::open_net::OpenNet;
 use crate::pause::Pause;
 use crate::stretch::stretch;
 use kpn_body::Body;
 use kpn_commit::Core;
-use kpn_network::Net;
 use kpn_state::Unkept;
 
 /// How many entries a flow has room for; each stretch forgets those of the one before.
@@ -30,32 +30,28 @@ fn entries_of_stretch(left: u64) -> usize
 }
 
 pub(crate) fn go_on<B: Body>(
-    net: &Net<B::Kinds>,
+    opened: &OpenNet<'_, B::Kinds>,
     core: &mut Core<Unkept>,
     bodies: &[Option<B>],
-    inputs: &[usize],
-    outputs: &[usize],
     counts: &mut Counts,
     most: u64,
 ) -> Pause
-    requires settled { IsSettled (family B.Kinds.Kinds) B.Kinds.admits net.now core.old }
-    requires bodies { HasAllBodies net.now (map (option_map B.card) bodies.now) }
+    requires settled { IsSettled (family B.Kinds.Kinds) B.Kinds.admits opened.now.net.now core.old }
+    requires bodies { HasAllBodies opened.now.net.now (map (option_map B.card) bodies.now) }
     requires room { 1048576 ≤ core.old.store.limit }
-    ensures settled { IsSettled (family B.Kinds.Kinds) B.Kinds.admits net.now core.new }
+    ensures settled { IsSettled (family B.Kinds.Kinds) B.Kinds.admits opened.now.net.now core.new }
     ensures limit { core.new.store.limit ≡ core.old.store.limit }
-    ensures advances { CoreAdvances (family B.Kinds.Kinds) net.now inputs.now outputs.now counts.old counts.new core.old core.new most result }
-    ensures told { TellWants (family B.Kinds.Kinds) net.now core.new.store.state core.new.standings result }
+    ensures advances { CoreAdvances (family B.Kinds.Kinds) opened.now counts.old counts.new core.old core.new most result }
+    ensures told { TellWants (family B.Kinds.Kinds) opened.now.net.now core.new.store.state core.new.standings result }
 {
     let mut done = 0;
     let mut grown = 0;
     let mut again = None;
     while most - done >= 2 {
         let pause = stretch(
-            net,
+            opened,
             core,
             bodies,
-            inputs,
-            outputs,
             &mut again,
             entries_of_stretch(most - done),
         );

@@ -19,6 +19,7 @@ pub mod ends;
 pub mod flow;
 mod going;
 pub mod law;
+mod open_net;
 mod opening;
 pub mod pause;
 mod stand;

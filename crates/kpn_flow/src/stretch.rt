@@ -6,9 +6,10 @@ ghost use Rattle.kpn_state.specs.declared.standing.Standing.TheVariants.{Ready};
 ghost use Rattle.kpn_state.specs.Standings.{standing, is_busy};
 ghost use Rattle.kpn_flow.specs.Flows.{IsSettled};
 ghost use Rattle.kpn_flow.specs.Pauses.{IsAwaited};
-ghost use Rattle.kpn_flow.specs.Stretches.{Stretches, MayStretchFrom, StretchesTo};
+ghost use Rattle.kpn_flow.specs.Stretches.{MayStretchFrom, StretchesTo};
 ghost use Rattle.kpn_flow.specs.Waits.{holds_up, starves};
 
+use crate::open_net::OpenNet;
 use crate::pause::Pause;
 use crate::waits::{any_holds_up, any_starves};
 use kpn_body::Body;
@@ -44,22 +45,23 @@ pub(crate) fn awaited<K: Kinds>(
 /// continue (after Parks 1995).
 #[cold]
 #[inline(never)]
-fn rest<K: Kinds>(
-    net: &Net<K>,
-    core: &mut Core<Unkept>,
-    inputs: &[usize],
-    outputs: &[usize],
-) -> Option<Pause>
-    requires settled { IsSettled (family K.Kinds) K.admits net.now core.old }
+fn rest<K: Kinds>(opened: &OpenNet<'_, K>, core: &mut Core<Unkept>) -> Option<Pause>
+    requires settled { IsSettled (family K.Kinds) K.admits opened.now.net.now core.old }
     requires idle { list_any is_busy core.old.standings ≡ false }
     requires room { 2 ≤ core.old.store.limit }
     requires emptied { core.old.store.history ≡ [] }
-    ensures { Stretches (family K.Kinds) K.admits net.now inputs.now outputs.now core.old 2 result core.new }
+    ensures { StretchesTo K.Kinds opened.now core.old 2 result core.new }
 {
-    if let Some(pause) = awaited(net, core.standings.as_slice(), inputs, outputs) {
+    let found = awaited(
+        opened.net,
+        core.standings.as_slice(),
+        opened.inputs,
+        opened.outputs,
+    );
+    if let Some(pause) = found {
         return Some(pause);
     }
-    match settle(net, core).0 {
+    match settle(opened.net, core).0 {
         Resolution::Ended(end) => Some(Pause::Over(end)),
         Resolution::Enlarged => None,
         Resolution::Busy => unreachable!(),
@@ -70,23 +72,21 @@ fn rest<K: Kinds>(
 /// the chosen channel, or returns why nothing can be done. The history then has only this stretch's entries.
 /// `again` is the process to ask first, and then the one to ask next.
 pub(crate) fn stretch<B: Body>(
-    net: &Net<B::Kinds>,
+    opened: &OpenNet<'_, B::Kinds>,
     core: &mut Core<Unkept>,
     bodies: &[Option<B>],
-    inputs: &[usize],
-    outputs: &[usize],
     again: &mut Option<usize>,
     until: usize,
 ) -> Option<Pause>
-    requires { MayStretchFrom B.Kinds.Kinds net.now core.old B.card bodies.now again.old until }
-    ensures stretches { StretchesTo B.Kinds.Kinds net.now inputs.now outputs.now core.old (until + 1) result core.new }
+    requires { MayStretchFrom B.Kinds.Kinds opened.now.net.now core.old B.card bodies.now again.old until }
+    ensures stretches { StretchesTo B.Kinds.Kinds opened.now core.old (until + 1) result core.new }
     ensures again { IfSome again.new (λ p. standing core.new.standings p ≡ Ready) }
 {
     core.store.forget();
-    let asked = ask_ready(net, core, bodies, again, u64::MAX, until);
+    let asked = ask_ready(opened.net, core, bodies, again, u64::MAX, until);
     if asked > 0 {
         return None;
     }
     *again = None;
-    rest(net, core, inputs, outputs)
+    rest(opened, core)
 }

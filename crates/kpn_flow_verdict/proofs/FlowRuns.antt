@@ -128,7 +128,7 @@ module _ (kinds : Family) (net : Network) (ins outs : ℕ → Bool) where
 
   -- an event is none of its deeds
   no_deed : (M : State) (x : Event) (N : State) → Happens kinds net M x N → (xs : List Event) (p : ℕ) → IsApart M p → deeds (entries_of (x ∷ xs)) p ≡ deeds (entries_of xs) p
-  no_deed M (Went (Did q d)) N s xs p dry = ap (λ b. cond b (d ∷ deeds (entries_of xs) p) (deeds (entries_of xs) p)) (ne_eqb q p (λ same. not_itself M p q dry d N s (sym same)))
+  no_deed M (Went (Did q d)) N s xs p dry = ap (λ b. cond b (d ∷ []) [] ++ deeds (entries_of xs) p) (ne_eqb q p (λ same. not_itself M p q dry d N s (sym same)))
   no_deed M (Went (Grew b to)) N s xs p dry = refl
   no_deed M (Fed b t) N h xs p dry = refl
   no_deed M (Drained b t) N h xs p dry = refl
@@ -137,7 +137,7 @@ module _ (kinds : Family) (net : Network) (ins outs : ℕ → Bool) where
   no_put : (M : State) (x : Event) (N : State) → Happens kinds net M x N → (xs : List Event) (c : ℕ) → IsApart M (channel_of net c).writer → put_on (entries_of (x ∷ xs)) c ≡ put_on (entries_of xs) c
   no_put M (Went (Did q (Put b t))) N s xs c dry =
       let r = put_write kinds net M q b t s.answer.act s.is_deed in
-      ap (λ x. cond x (t ∷ put_on (entries_of xs) c) (put_on (entries_of xs) c))
+      ap (λ x. cond x (t ∷ []) [] ++ put_on (entries_of xs) c)
       (ne_eqb b c (λ (same : b ≡ c). not_itself M (channel_of net c).writer q dry (Put b t) N s (ap (λ x. (channel_of net x).writer) (sym same) ∙ (out_of-writer net q r.0 b r.2).1)))
   no_put M (Went (Did q (Took b t))) N s xs c dry = refl
   no_put M (Went (Did q Stopped)) N s xs c dry = refl

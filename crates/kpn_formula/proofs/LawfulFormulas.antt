@@ -9,7 +9,7 @@ use Rattle.kpn_formula.specs.Shapes.{ports, states_of, inputs_of, outputs_of}
 use Rattle.kpn_formula.specs.Programs.{values_after}
 use Rattle.kpn_formula.specs.Cards.{opening_of}
 use Rattle.kpn_formula.specs.Formulas.{part, value, values, states_in, outputs_in, start, step, round_values}
-use Rattle.kpn_formula.proofs.Words.{at_word, round_words, opening_words}
+use Rattle.kpn_formula.proofs.Words.{if_word, at_word, round_words, opening_words}
 
 part_if : (b : Bool) (x : ℕ) → IsWord x → IsWord (if b then x else 0)
 part_if true x word = word
@@ -24,13 +24,9 @@ states_kept k xs words = (part_word 0 k xs 0 words, part_word 0 k xs 1 words, pa
 pub outputs_made : (k m : ℕ) (xs : List ℕ) → All IsWord xs → AreMade (outputs_in k m xs)
 outputs_made k m xs words = (part_word k m xs 0 words, part_word k m xs 1 words, part_word k m xs 2 words)
 
-either : (b : Bool) (x y : ℕ) → IsWord x → IsWord y → IsWord (if b then x else y)
-either true x y first second = first
-either false x y first second = second
-
 module _ (k m n : ℕ) (kept inputs : List ℕ) (keeps : All IsWord kept) (reads : All IsWord inputs) where
   value_word : (i : ℕ) → IsWord (value k m n kept inputs i)
-  value_word i = either (nat_lt i (k + m)) (part 0 k kept i) (part 0 n inputs (i - (k + m))) (part_word 0 k kept i keeps) (part_word 0 n inputs (i - (k + m)) reads)
+  value_word i = if_word (nat_lt i (k + m)) (part 0 k kept i) (part 0 n inputs (i - (k + m))) (part_word 0 k kept i keeps) (part_word 0 n inputs (i - (k + m)) reads)
 
   values_words : All IsWord (values k m n kept inputs)
   values_words =

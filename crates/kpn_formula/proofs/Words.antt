@@ -16,7 +16,7 @@ use Rattle.kpn_formula.specs.Programs.{Working, executed, run, values_after}
 use Rattle.kpn_formula.specs.Cards.{digit, digits_from, digits, three, extended, meanings, instruction, operands, instructions, is_end, before_end, after_end, round_of, opening_of}
 use Rattle.kpn_formula.specs.Spelling.{IsDigit}
 
-if_word : (b : Bool) (x y : ℕ) → IsWord x → IsWord y → IsWord (if b then x else y)
+pub if_word : (b : Bool) (x y : ℕ) → IsWord x → IsWord y → IsWord (if b then x else y)
 if_word true x y first second = first
 if_word false x y first second = second
 

@@ -20,18 +20,18 @@ pub type Formulas = Rounded<Programs>;
 
 /// How many states, inputs and outputs a formula has.
 #[derive(Clone, Copy)]
-struct Counts {
+struct FormulaSizes {
     states: usize,
     inputs: usize,
     outputs: usize,
 }
 
 #[inline(always)]
-fn counts_of(kind: u16) -> Counts
+fn counts_of(kind: u16) -> FormulaSizes
     ensures { result ≡ record { states = states_of kind; inputs = inputs_of kind; outputs = outputs_of kind } }
 {
     let kind = usize::from(kind);
-    Counts {
+    FormulaSizes {
         states: kind % 8,
         inputs: kind / 8 % 4,
         outputs: kind / 32 % 4,
@@ -63,7 +63,7 @@ fn clear(values: &mut [u64; 16], place: usize)
 /// Lays what a round begins with over words that were kept, with zeros behind them: each part goes over what stands behind
 /// the one before, whatever their lengths.
 #[inline(always)]
-fn begin(counts: Counts, values: &mut [u64; 16], inputs: [u64; 3])
+fn begin(counts: FormulaSizes, values: &mut [u64; 16], inputs: [u64; 3])
     requires states { counts.states < 8 }
     requires inputs { counts.inputs < 4 }
     requires outputs { counts.outputs < 4 }
@@ -77,7 +77,7 @@ fn begin(counts: Counts, values: &mut [u64; 16], inputs: [u64; 3])
 
 /// Returns the states, which stand first, and the outputs behind them.
 #[inline(always)]
-fn results(counts: Counts, values: &mut [u64; 16]) -> (Local, [u64; 3])
+fn results(counts: FormulaSizes, values: &mut [u64; 16]) -> (Local, [u64; 3])
     requires { counts.states + counts.outputs ≤ 6 }
     ensures { result ≡ results_in counts.states counts.outputs (take 6 values.old) }
 {

@@ -20,7 +20,7 @@ pub record Says (status : ExitStatus) (text : List ℕ) (before after : SinkView
 abbrev pub AppendsTo : SinkView → SinkView → List ℕ → Type 0
 AppendsTo before after text = Appends before.contents after.contents text
 
--- a sink that takes `count` and more bytes without failure, takes the more after these
+-- where the sink takes `count` and n more bytes without failure, nothing fails, and it then takes n more
 abbrev pub LeavesRoom : {T E : Type 0} → SinkView → SinkView → ℕ → Result T E → Type 0
 LeavesRoom before after count result =
     (n : ℕ) → before.takes (count + n) ≡ true → IsOk result × (after.takes n ≡ true)

@@ -69,7 +69,7 @@ module _ (kinds : Family) (net : Network) where
             (λ es d rest e. subst (λ l. FollowsAlone T p l d) (sym (append_assoc before (x ∷ []) es)) (h (x ∷ es) d rest (ap (λ l. x ∷ l) e))),
       )
 
-  -- the same from the start of p
+  -- each deed that p does alone from its start follows from those before it
   pub alone_follows : (T : Streams) (p : ℕ) (ds : List Deed) → DoesAlone kinds net T p ds → (es : List Deed) (d : Deed) (rest : List Deed) → ds ≡ es ++ d ∷ rest → FollowsAlone T p es d
   alone_follows T p ds g es d rest e = each_deed T p (status (start kinds net) p) [] ds refl g es d rest e
 

@@ -61,7 +61,7 @@ module _ (kinds : Family) (net : Network) where
       (Put h.0 t, (after_deed kinds net M p a.next (Put h.0 t), record { answer = a; wanted = w; is_deed = subst (λ x. IsDeed kinds net M p x (Put h.0 t)) (sym e) (h.1, refl, h.2); leaves = refl }))
 
   -- an act that comes to a deed can be done
-  deed_possible : (M : State) (p : ℕ) (x : Act) (d : Deed) → IsDeed kinds net M p x d → IsPossible kinds net M p x
+  pub deed_possible : (M : State) (p : ℕ) (x : Act) (d : Deed) → IsDeed kinds net M p x d → IsPossible kinds net M p x
   deed_possible M p Stop Stopped h = tt
   deed_possible M p (Read k) (Took c t) h = (c, h.0, λ (e : tokens M c ≡ []). let g = h.1.1 in cc)
   deed_possible M p (Write k u) (Put c t) h = (c, h.0, h.2)

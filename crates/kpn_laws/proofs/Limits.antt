@@ -116,11 +116,12 @@ common_run kinds net sizes others E F M N run run' =
     let n = length E + length F + 1 in
     record { sizes = roomy_sizes kinds net n; history = a.history; state = a.state; run = run_back kinds net (roomy_sizes kinds net n) a.history a.state a.run; first = a.first; second = a.second }
 
+-- two options that have the same, if they have something
+pub same_option : (a b : Option Token) → ((t : Token) → a ≡ Some t → b ≡ Some t) → ((t : Token) → b ≡ Some t → a ≡ Some t) → a ≡ b
+same_option None None f g = refl
+same_option None (Some t) f g = g t refl
+same_option (Some t) b f g = sym (f t refl)
+
 -- the least solution is in every solution, so there is but one
 pub one_least : (kinds : Family) → OneLeastSolution kinds
-one_least kinds net T U x y c n = same (T c n) (U c n) (λ t e. x.least U y.solution.obeys c n t e) (λ t e. y.least T x.solution.obeys c n t e)
-  where
-    same : (a b : Option Token) → ((t : Token) → a ≡ Some t → b ≡ Some t) → ((t : Token) → b ≡ Some t → a ≡ Some t) → a ≡ b
-    same None None f g = refl
-    same None (Some t) f g = g t refl
-    same (Some t) b f g = sym (f t refl)
+one_least kinds net T U x y c n = same_option (T c n) (U c n) (λ t e. x.least U y.solution.obeys c n t e) (λ t e. y.least T x.solution.obeys c n t e)

@@ -39,7 +39,7 @@ comparable_push xs ys d (inl (f ∷ rest, e)) h =
     let g = h f rest (sym e) in
     inl (rest, append_assoc xs (d ∷ []) rest ∙ ap (λ x. xs ++ x ∷ rest) g ∙ e)
 
--- the same for a list and one of its prefixes
+-- a list and one of its prefixes go on with the same element
 same_next_in_prefix : {X : Type 0} (k r s w xs ys : List X) (t u : X) → xs ++ w ≡ ys → xs ≡ k ++ t ∷ r → ys ≡ k ++ u ∷ s → t ≡ u
 same_next_in_prefix k r s w xs ys t u a e f =
     let h : t ∷ (r ++ w) ≡ u ∷ s = append_cancel_left k _ _ (sym (append_assoc k (t ∷ r) w) ∙ ap (λ l. l ++ w) (sym e) ∙ a ∙ f) in

@@ -38,7 +38,7 @@ get_longer [] ys n t e = cc
 get_longer (x ∷ xs) ys zero t e = e
 get_longer (x ∷ xs) ys (suc n) t e = get_longer xs ys n t e
 
--- the same of a prefix
+-- a list has the same tokens at the places of its prefix
 pub get_prefix : (xs ys : List Token) (n : ℕ) (t : Token) → IsPrefixOf xs ys → slice_get xs n ≡ Some t → slice_get ys n ≡ Some t
 get_prefix xs ys n t p e = sym (ap (λ l. slice_get l n) p.1) ∙ get_longer xs p.0 n t e
 

@@ -24,7 +24,7 @@ use Rattle.kpn_laws.proofs.Wiring.{run_alike, wired_sym}
 use Rattle.kpn_laws.proofs.Resized.{wired_resized, fresh_resized}
 
 -- an element that is added conditionally adds at most one
-one_at_most : {X : Type 0} (b : Bool) (x : X) (xs : List X) (n : ℕ) → length xs ≤ n → length (if b then x ∷ xs else xs) ≤ suc n
+one_at_most : {X : Type 0} (b : Bool) (x : X) (xs : List X) (n : ℕ) → length xs ≤ n → length ((if b then x ∷ [] else []) ++ xs) ≤ suc n
 one_at_most true x xs n h = omega arith
 one_at_most false x xs n h = omega arith
 
@@ -36,7 +36,7 @@ puts-length (Took b t ∷ ds) c = let h = puts-length ds c in omega arith
 puts-length (Stopped ∷ ds) c = let h = puts-length ds c in omega arith
 
 -- a process's deeds are no more than the entries
-deeds-length : (E : List Entry) (p : ℕ) → length (deeds E p) ≤ length E
+pub deeds-length : (E : List Entry) (p : ℕ) → length (deeds E p) ≤ length E
 deeds-length [] p = omega arith
 deeds-length (Did q d ∷ E) p = one_at_most (q == p) d (deeds E p) (length E) (deeds-length E p)
 deeds-length (Grew c to ∷ E) p = let h = deeds-length E p in omega arith

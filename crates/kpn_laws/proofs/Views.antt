@@ -1,67 +1,45 @@
 -- A history as each process and each channel sees it.
 use Rattle.std.proofs.Common.{◌≡◌, inl, inr, List, [], ◌∷◌, ◌++◌, refl, sym, ap, ◌∙◌, append-nil, ℕ, ◌==◌, if◌then◌else◌, Bool, true, false, eq-eqb}
-use Rattle.kpn_model.specs.History.{IsPrefixOf, ArePrefixComparable, deeds, put_on, taken, growths, grown}
+use Rattle.std.proofs.lemmas.Grind.{flat_map-append}
+use Rattle.kpn_model.specs.History.{IsPrefixOf, ArePrefixComparable, deed_by, deeds, put_by_deed, put_by_entry, put_on, taken_by_deed, taken_by_entry, taken, growth_of, growths, grown}
 use Rattle.kpn_model.specs.declared.token.Token.{Token}
 use Rattle.kpn_model.specs.declared.history.Deed.{Deed}
-use Rattle.kpn_model.specs.declared.history.Deed.TheVariants.{Took, Put, Stopped}
+use Rattle.kpn_model.specs.declared.history.Deed.TheVariants.{Took, Put}
 use Rattle.kpn_model.specs.declared.history.Entry.{Entry}
 use Rattle.kpn_model.specs.declared.history.Entry.TheVariants.{Did, Grew}
 use Rattle.kpn_laws.specs.Alone.{puts, took}
 
--- an element that is added conditionally comes before what is appended
-cond_append : {X : Type 0} (b : Bool) (x : X) (xs ys zs : List X) → xs ++ ys ≡ zs → (if b then x ∷ xs else xs) ++ ys ≡ (if b then x ∷ zs else zs)
-cond_append true x xs ys zs e = ap (λ l. x ∷ l) e
-cond_append false x xs ys zs e = e
-
 -- what two lists of deeds put is what the first puts and then the second
 pub puts-append : (xs ys : List Deed) (c : ℕ) → puts (xs ++ ys) c ≡ puts xs c ++ puts ys c
-puts-append [] ys c = refl
-puts-append (Put b t ∷ xs) ys c = sym (cond_append (b == c) t (puts xs c) (puts ys c) _ (sym (puts-append xs ys c)))
-puts-append (Took b t ∷ xs) ys c = puts-append xs ys c
-puts-append (Stopped ∷ xs) ys c = puts-append xs ys c
+puts-append xs ys c = flat_map-append (put_by_deed c) xs ys
 
 -- what two lists of deeds took is what the first took and then the second
 pub took-append : (xs ys : List Deed) (c : ℕ) → took (xs ++ ys) c ≡ took xs c ++ took ys c
-took-append [] ys c = refl
-took-append (Took b t ∷ xs) ys c = sym (cond_append (b == c) t (took xs c) (took ys c) _ (sym (took-append xs ys c)))
-took-append (Put b t ∷ xs) ys c = took-append xs ys c
-took-append (Stopped ∷ xs) ys c = took-append xs ys c
+took-append xs ys c = flat_map-append (taken_by_deed c) xs ys
 
 -- the deeds of two histories in turn are those of the first and then those of the second
 pub deeds-append : (E F : List Entry) (p : ℕ) → deeds (E ++ F) p ≡ deeds E p ++ deeds F p
-deeds-append [] F p = refl
-deeds-append (Did q d ∷ E) F p = sym (cond_append (q == p) d (deeds E p) (deeds F p) _ (sym (deeds-append E F p)))
-deeds-append (Grew c to ∷ E) F p = deeds-append E F p
+deeds-append E F p = flat_map-append (deed_by p) E F
 
 -- what is put on a channel in two histories in turn
 pub put_on-append : (E F : List Entry) (c : ℕ) → put_on (E ++ F) c ≡ put_on E c ++ put_on F c
-put_on-append [] F c = refl
-put_on-append (Did p (Put b t) ∷ E) F c = sym (cond_append (b == c) t (put_on E c) (put_on F c) _ (sym (put_on-append E F c)))
-put_on-append (Did p (Took b t) ∷ E) F c = put_on-append E F c
-put_on-append (Did p Stopped ∷ E) F c = put_on-append E F c
-put_on-append (Grew b to ∷ E) F c = put_on-append E F c
+put_on-append E F c = flat_map-append (put_by_entry c) E F
 
 -- what is taken from a channel in two histories in turn
 pub taken-append : (E F : List Entry) (c : ℕ) → taken (E ++ F) c ≡ taken E c ++ taken F c
-taken-append [] F c = refl
-taken-append (Did p (Took b t) ∷ E) F c = sym (cond_append (b == c) t (taken E c) (taken F c) _ (sym (taken-append E F c)))
-taken-append (Did p (Put b t) ∷ E) F c = taken-append E F c
-taken-append (Did p Stopped ∷ E) F c = taken-append E F c
-taken-append (Grew b to ∷ E) F c = taken-append E F c
+taken-append E F c = flat_map-append (taken_by_entry c) E F
 
 -- the growths of two histories in turn
 pub growths-append : (E F : List Entry) → growths (E ++ F) ≡ growths E ++ growths F
-growths-append [] F = refl
-growths-append (Did p d ∷ E) F = growths-append E F
-growths-append (Grew c to ∷ E) F = ap (λ l. (c, to) ∷ l) (growths-append E F)
+growths-append E F = flat_map-append growth_of E F
 
 -- one more deed of p is one more in p's list
 pub deeds_push_same : (E : List Entry) (p : ℕ) (d : Deed) → deeds (E ++ Did p d ∷ []) p ≡ deeds E p ++ d ∷ []
-deeds_push_same E p d = deeds-append E (Did p d ∷ []) p ∙ ap (λ b. deeds E p ++ (if b then d ∷ [] else [])) (eq-eqb p p refl)
+deeds_push_same E p d = deeds-append E (Did p d ∷ []) p ∙ ap (λ b. deeds E p ++ ((if b then d ∷ [] else []) ++ [])) (eq-eqb p p refl)
 
 -- and none in any other's
 pub deeds_push_other : (E : List Entry) (p q : ℕ) (d : Deed) → (p == q) ≡ false → deeds (E ++ Did p d ∷ []) q ≡ deeds E q
-deeds_push_other E p q d h = deeds-append E (Did p d ∷ []) q ∙ ap (λ b. deeds E q ++ (if b then d ∷ [] else [])) h ∙ append-nil (deeds E q)
+deeds_push_other E p q d h = deeds-append E (Did p d ∷ []) q ∙ ap (λ b. deeds E q ++ ((if b then d ∷ [] else []) ++ [])) h ∙ append-nil (deeds E q)
 
 -- a growth is no deed
 pub deeds_push_grew : (E : List Entry) (c to q : ℕ) → deeds (E ++ Grew c to ∷ []) q ≡ deeds E q
@@ -85,12 +63,12 @@ grown_push (g ∷ gs) n c to b = both (g.0 == b) (c == b) _ _ _ _ (grown_push gs
     both false y k l m o e f = f
 
 -- a deed that puts nothing on c puts nothing there whether it counts or not
-puts_of_choice : (b : Bool) (d : Deed) (c : ℕ) → puts (d ∷ []) c ≡ [] → puts (if b then d ∷ [] else []) c ≡ []
+puts_of_choice : (b : Bool) (d : Deed) (c : ℕ) → puts (d ∷ []) c ≡ [] → puts ((if b then d ∷ [] else []) ++ []) c ≡ []
 puts_of_choice true d c e = e
 puts_of_choice false d c e = refl
 
 -- a deed that takes nothing from c takes nothing there whether it counts or not
-took_of_choice : (b : Bool) (d : Deed) (c : ℕ) → took (d ∷ []) c ≡ [] → took (if b then d ∷ [] else []) c ≡ []
+took_of_choice : (b : Bool) (d : Deed) (c : ℕ) → took (d ∷ []) c ≡ [] → took ((if b then d ∷ [] else []) ++ []) c ≡ []
 took_of_choice true d c e = e
 took_of_choice false d c e = refl
 
@@ -116,19 +94,19 @@ took_push_same E p d c = ap (λ l. took l c) (deeds_push_same E p d) ∙ took-ap
 
 -- a put on c puts its token there
 pub puts_one : (c : ℕ) (t : Token) → puts (Put c t ∷ []) c ≡ t ∷ []
-puts_one c t = ap (λ b. if b then t ∷ [] else []) (eq-eqb c c refl)
+puts_one c t = ap (λ b. (if b then t ∷ [] else []) ++ []) (eq-eqb c c refl)
 
 -- a take from c takes its token there
 pub took_one : (c : ℕ) (t : Token) → took (Took c t ∷ []) c ≡ t ∷ []
-took_one c t = ap (λ b. if b then t ∷ [] else []) (eq-eqb c c refl)
+took_one c t = ap (λ b. (if b then t ∷ [] else []) ++ []) (eq-eqb c c refl)
 
 -- a put on another channel puts nothing on c
 pub puts_other : (b c : ℕ) (t : Token) → (b == c) ≡ false → puts (Put b t ∷ []) c ≡ []
-puts_other b c t h = ap (λ x. if x then t ∷ [] else []) h
+puts_other b c t h = ap (λ x. (if x then t ∷ [] else []) ++ []) h
 
 -- a take from another channel takes nothing from c
 pub took_other : (b c : ℕ) (t : Token) → (b == c) ≡ false → took (Took b t ∷ []) c ≡ []
-took_other b c t h = ap (λ x. if x then t ∷ [] else []) h
+took_other b c t h = ap (λ x. (if x then t ∷ [] else []) ++ []) h
 
 -- what is put by prefix-comparable lists of deeds is prefix-comparable
 pub puts_comparable : (xs ys : List Deed) (c : ℕ) → ArePrefixComparable xs ys → ArePrefixComparable (puts xs c) (puts ys c)

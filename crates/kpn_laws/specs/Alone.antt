@@ -1,5 +1,5 @@
 -- A process alone: a function from the streams that it reads to those that it writes (Kahn 1974).
-use Rattle.std.specs.Prelude.{◌≡◌, ℕ, suc, ◌==◌, if◌then◌else◌, List, [], ◌∷◌, ◌++◌, Option, Some, None, length}
+use Rattle.std.specs.Prelude.{◌≡◌, ℕ, suc, List, [], ◌∷◌, ◌++◌, Option, Some, None, length, flat_map}
 use Rattle.kpn_model.specs.declared.token.Token.{Token}
 use Rattle.kpn_model.specs.declared.kinds.Act.{Act}
 use Rattle.kpn_model.specs.declared.kinds.Act.TheVariants.{Read, Write, Stop}
@@ -10,7 +10,7 @@ use Rattle.kpn_model.specs.declared.history.Status.{Status}
 use Rattle.kpn_model.specs.declared.history.Status.TheVariants.{Live, Done}
 use Rattle.kpn_model.specs.Network.{Family, Network, in_of, out_of}
 use Rattle.kpn_model.specs.Semantics.{status, start, answered}
-use Rattle.kpn_model.specs.History.{ArePrefixComparable}
+use Rattle.kpn_model.specs.History.{put_by_deed, taken_by_deed, ArePrefixComparable}
 
 -- the token at each place of each channel's stream, finite or endless; none past its end
 abbrev pub Streams : Type 0
@@ -21,14 +21,10 @@ BeginsWith s [] = Unit {0}
 BeginsWith s (t ∷ ts) = (s 0 ≡ Some t) × BeginsWith (λ n. s (suc n)) ts
 
 abbrev pub puts : List Deed → ℕ → List Token
-puts [] c = []
-puts (Put b t ∷ ds) c = if b == c then t ∷ puts ds c else puts ds c
-puts (_ ∷ ds) c = puts ds c
+puts ds c = flat_map (put_by_deed c) ds
 
 abbrev pub took : List Deed → ℕ → List Token
-took [] c = []
-took (Took b t ∷ ds) c = if b == c then t ∷ took ds c else took ds c
-took (_ ∷ ds) c = took ds c
+took ds c = flat_map (taken_by_deed c) ds
 
 abbrev pub after_answer : Answer → Deed → Status
 after_answer a (Took c t) = Live a.next (Some t)

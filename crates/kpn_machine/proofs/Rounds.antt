@@ -84,7 +84,7 @@ module _ (kinds : Family) (admits : Admits) (net : Network) where
       subst (λ n. Rounded (machine_view net s.state s.history l None commits) (length (r ∷ q ∷ rs)) (machine_view net u.state u.history k end n) u.limit bodies) sum
       (record { outcomes = round.goes.outcome ∷ rest.outcomes; count = omega (arith, rest.count); rounds = (_, round.goes, refl, rest.rounds); sound = rest.sound })
 
-  -- the same where the end and the number of those asked are named
+  -- so many processes were asked, up to this end
   pub gone :
       (bodies : List (Option Card)) (s t u : StateAndHistory) (l m k : List Standing) (before : Option End) (commits n : ℕ) → IsSound kinds admits (machine_view net s.state s.history l before commits) s.limit bodies → before ≡ None
       → ((rs : List Reaction) × (length rs ≡ n) × AreAsked kinds admits net net.budget s l rs t m) → (x : Resolution) → Resolves kinds net t m x u k → StandingsFit kinds admits net None u.state k → (end : Option End) → end ≡ end_after x net.budget (length u.history)

@@ -73,8 +73,8 @@ bodies_back net l m bodies p card within is has keeps =
     (λ q o there n. ⊎_elim (λ e. absurd (n (keeps q o e))) (λ ne. has q there ne) (out_or_not (standing l q)))
 
 module _ {kinds : Family} {admits : Admits} where
-  -- a live process that is neither ready nor out wants what it answered
-  idle_wants : {net : Network} {M : State} {l : List Standing} → StandingsFit kinds admits net None M l → (p : ℕ) (x : Standing) → standing l p ≡ x → is_busy x ≡ false → wants kinds net M p ≡ parked_answer x
+  -- a process that is neither ready nor out wants what it answered
+  pub idle_wants : {net : Network} {M : State} {l : List Standing} → StandingsFit kinds admits net None M l → (p : ℕ) (x : Standing) → standing l p ≡ x → is_busy x ≡ false → wants kinds net M p ≡ parked_answer x
   idle_wants k p x e idle = grind (arith, k.wanted p, k.stopped p)
 
   pub sound_faithful :

@@ -16,7 +16,7 @@ ghost use Rattle.kpn_machine.specs.Finishing.{FinishesAlone};
 use crate::asking::ask_ready;
 use crate::chronicle::Chronicle;
 use crate::equality::{is_live_with, same_card};
-use crate::opening::{OpenFault, Start, misfit, prepare, seat_all};
+use crate::opening::{OpenFault, Start, bodies_fault, prepare, seat_all};
 use kpn_body::{Body, Finished, Task};
 use kpn_commit::work::{settle, work, work_on};
 use kpn_commit::{Core, Outcome};
@@ -133,7 +133,7 @@ impl<B: Body, H: Keeper> Machine<B, H> {
         ensures cards { OnOk result (map B.card bodies.items ≡ cards_of net.processes) }
         ensures refused { IfErr result (IsOpenRefused B.card net bodies.items) }
     {
-        if let Some(fault) = misfit(&net, bodies.as_slice()) {
+        if let Some(fault) = bodies_fault(&net, bodies.as_slice()) {
             return Err(OpenRefused { net, bodies, fault });
         }
         net.assure_valid();

@@ -50,7 +50,7 @@ pub fn cards_of<K: Kinds>(alloc: Global, net: &Net<K>) -> Result<Vec<Card>, Allo
 }
 
 /// Returns what is wrong with the bodies, `Bodies` or `Card`; `None` if nothing is.
-pub fn misfit<B: Body>(net: &Net<B::Kinds>, bodies: &[B]) -> Option<OpenFault>
+pub fn bodies_fault<B: Body>(net: &Net<B::Kinds>, bodies: &[B]) -> Option<OpenFault>
     ensures some { IfSome result (IsOpenFault net.now.processes (map B.card bodies.now)) }
     ensures none { IfNone result (map B.card bodies.now ≡ cards_of net.now.processes) }
 {

@@ -1,6 +1,6 @@
 -- A fault that no process and no channel has is a fault of the whole description, if it is there.
 use Rattle.std.proofs.Common.{◌≡◌, ◌<◌, ℕ, zero, suc, Bool, true, false, not, ◌||◌, List, [], ◌∷◌, length, take, slice_get, Option, Some, None, refl, arith}
-use Rattle.std.proofs.lemmas.Bool.{or_parts}
+use Rattle.std.proofs.lemmas.Bool.{or_from, or_parts}
 use Rattle.std.specs.Option.{option_map_or}
 use Rattle.std.specs.List.{list_any}
 use Rattle.kpn_sketch.specs.declared.fault.NetFault.{NetFault}
@@ -16,9 +16,6 @@ use Rattle.kpn_message.specs.Location.{holds_at, clashes_at, HoldsNowhere, is_of
 parts_nowhere : (a b : ℕ → Bool) (n : ℕ) → HoldsNowhere (λ k. a k || b k) n → HoldsNowhere a n × HoldsNowhere b n
 parts_nowhere a b n h = (λ k l. (or_parts (a k) (b k) (h k l)).0, λ k l. (or_parts (a k) (b k) (h k l)).1)
 
-either_false : (a b : Bool) → a ≡ false → b ≡ false → (a || b) ≡ false
-either_false a b e f = rw (e, f) refl
-
 module _ {A : Type 0} where
   parts_at : (a b : A → Bool) (o : Option A) → option_map_or (λ x. a x || b x) o false ≡ false → (option_map_or a o false ≡ false) × (option_map_or b o false ≡ false)
   parts_at a b None h = (refl, refl)
@@ -26,7 +23,7 @@ module _ {A : Type 0} where
 
   nowhere_any : (t : A → Bool) (xs : List A) → HoldsNowhere (holds_at t xs) (length xs) → list_any t xs ≡ false
   nowhere_any t [] h = refl
-  nowhere_any t (x ∷ xs) h = either_false (t x) (list_any t xs) (h zero (omega arith)) (nowhere_any t xs (λ k l. h (suc k) (omega arith)))
+  nowhere_any t (x ∷ xs) h = or_from (t x) (list_any t xs) (h zero (omega arith)) (nowhere_any t xs (λ k l. h (suc k) (omega arith)))
 
   later_clash : (t : A → A → Bool) (x : A) (xs : List A) → HoldsNowhere (clashes_at t (x ∷ xs)) (length (x ∷ xs)) → (k : ℕ) → k < length xs → (holds_at (t x) xs k ≡ false) × (clashes_at t xs k ≡ false)
   later_clash t x xs h k l = parts_at (t x) (λ z. list_any (λ y. t y z) (take k xs)) (slice_get xs k) (h (suc k) (omega arith))
@@ -34,19 +31,19 @@ module _ {A : Type 0} where
   nowhere_pair : (t : A → A → Bool) (xs : List A) → HoldsNowhere (clashes_at t xs) (length xs) → any_pair t xs ≡ false
   nowhere_pair t [] h = refl
   nowhere_pair t (x ∷ xs) h =
-      either_false (list_any (t x) xs) (any_pair t xs) (nowhere_any (t x) xs (λ k l. (later_clash t x xs h k l).0)) (nowhere_pair t xs (λ k l. (later_clash t x xs h k l).1))
+      or_from (list_any (t x) xs) (any_pair t xs) (nowhere_any (t x) xs (λ k l. (later_clash t x xs h k l).0)) (nowhere_pair t xs (λ k l. (later_clash t x xs h k l).1))
 
 module _ (named : List ℕ → Option (ℕ × ℕ)) (signature : Card → Option Signature) (sketch : Sketch) where
   no_names : HoldsNowhere (process_has_fault named signature sketch Name) (length sketch.processes) → HoldsNowhere (channel_has_fault named signature sketch Name) (length sketch.channels) → has_fault named signature sketch Name ≡ false
   no_names p c =
       let ps = parts_nowhere (holds_at (λ q. not (is_name q.name)) sketch.processes) (clashes_at same_process sketch.processes) (length sketch.processes) p in
       let cs = parts_nowhere (holds_at (λ d. not (is_name d.name)) sketch.channels) (clashes_at same_channel sketch.channels) (length sketch.channels) c in
-      either_false _ _ (either_false _ _ (nowhere_any _ sketch.processes ps.0) (nowhere_any _ sketch.channels cs.0)) (either_false _ _ (nowhere_pair _ sketch.processes ps.1) (nowhere_pair _ sketch.channels cs.1))
+      or_from _ _ (or_from _ _ (nowhere_any _ sketch.processes ps.0) (nowhere_any _ sketch.channels cs.0)) (or_from _ _ (nowhere_pair _ sketch.processes ps.1) (nowhere_pair _ sketch.channels cs.1))
 
   no_shared : HoldsNowhere (channel_has_fault named signature sketch Twice) (length sketch.channels) → has_fault named signature sketch Twice ≡ false
   no_shared c =
       let cs = parts_nowhere (clashes_at same_out sketch.channels) (clashes_at same_in sketch.channels) (length sketch.channels) c in
-      either_false _ _ (nowhere_pair _ sketch.channels cs.0) (nowhere_pair _ sketch.channels cs.1)
+      or_from _ _ (nowhere_pair _ sketch.channels cs.0) (nowhere_pair _ sketch.channels cs.1)
 
   impossible : (b : Bool) {P : Type 0} → b ≡ false → b ≡ true → P
   impossible b e f = absurd (cc)

@@ -78,18 +78,18 @@ module _ (named : List ℕ → Option (ℕ × ℕ)) (signature : Card → Option
   is_of fault (Process k) = is_of_process fault k
   is_of fault (Channel k) = channel_has_fault named signature sketch fault k
 
-  abbrev pub told_of : NetFault → Location → List (NetFault × Location)
-  told_of fault place = if is_of fault place then (fault, place) ∷ [] else []
+  abbrev pub told_at : NetFault → Location → List (NetFault × Location)
+  told_at fault place = if is_of fault place then (fault, place) ∷ [] else []
 
   -- the places of the fault among the processes, and among the channels
-  abbrev pub told_of_processes : NetFault → List (NetFault × Location)
-  told_of_processes fault = for_each_below (λ p. told_of fault (Process p)) (length sketch.processes)
+  abbrev pub told_at_processes : NetFault → List (NetFault × Location)
+  told_at_processes fault = for_each_below (λ p. told_at fault (Process p)) (length sketch.processes)
 
-  abbrev pub told_of_channels : NetFault → List (NetFault × Location)
-  told_of_channels fault = for_each_below (λ c. told_of fault (Channel c)) (length sketch.channels)
+  abbrev pub told_at_channels : NetFault → List (NetFault × Location)
+  told_at_channels fault = for_each_below (λ c. told_at fault (Channel c)) (length sketch.channels)
 
   abbrev pub places_of : NetFault → List (NetFault × Location)
-  places_of fault = told_of fault Description ++ (told_of_processes fault ++ told_of_channels fault)
+  places_of fault = told_at fault Description ++ (told_at_processes fault ++ told_at_channels fault)
 
   -- the sketch has the fault, and no other may have caused it
   abbrev pub is_due : NetFault → Bool

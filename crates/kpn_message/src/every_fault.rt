@@ -2,7 +2,7 @@
 ghost use Rattle.std.specs.Prelude.{◌≡◌, ◌≢◌, ◌<◌, ◌≤◌, ◌&&◌, ◌∷◌, [], false, true, length, string_bytes};
 ghost use Rattle.kpn_net.specs.Faults.{has_fault};
 ghost use Rattle.kpn_message.specs.Location.{is_of_description};
-ghost use Rattle.kpn_message.specs.EveryFault.{Adds, Tells, due, due_of, has_wrong_end, has_wrong_process, is_of, is_of_process, stands_alone, subject, told_of, is_due, told_of_channels, told_of_processes};
+ghost use Rattle.kpn_message.specs.EveryFault.{Adds, Tells, due, due_of, has_wrong_end, has_wrong_process, is_of, is_of_process, stands_alone, subject, told_at, is_due, told_at_channels, told_at_processes};
 
 use crate::location::{Location, channel_has_fault, process_has_fault};
 use crate::message::{Said, message_at};
@@ -139,7 +139,7 @@ fn push_processes<K: Kinds>(
     fault: NetFault,
     kinds: &str,
 )
-    ensures { Adds (told_of_processes K.named K.signature sketch.now fault) messages.old messages.new }
+    ensures { Adds (told_at_processes K.named K.signature sketch.now fault) messages.old messages.new }
 {
     for p in 0..sketch.processes.as_slice().len() {
         let place = Location::Process(p);
@@ -154,7 +154,7 @@ fn push_channels<K: Kinds>(
     fault: NetFault,
     kinds: &str,
 )
-    ensures { Adds (told_of_channels K.named K.signature sketch.now fault) messages.old messages.new }
+    ensures { Adds (told_at_channels K.named K.signature sketch.now fault) messages.old messages.new }
 {
     for c in 0..sketch.channels.as_slice().len() {
         let place = Location::Channel(c);
@@ -177,7 +177,7 @@ fn push_place<K: Kinds>(
     at: FaultAt,
     kinds: &str,
 )
-    ensures { Adds (told_of K.named K.signature sketch.now at.fault at.place) messages.old messages.new }
+    ensures { Adds (told_at K.named K.signature sketch.now at.fault at.place) messages.old messages.new }
 {
     if !is_of::<K>(sketch, at.fault, at.place) {
         return;

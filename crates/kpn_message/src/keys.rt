@@ -9,7 +9,7 @@ use toml::{Table, Value};
 
 /// The type that a key's value must have.
 #[derive(Clone, Copy)]
-enum Form {
+enum ValueType {
     Integer,
     Text,
     Sort,
@@ -18,26 +18,26 @@ enum Form {
     Array,
 }
 
-impl Form {
+impl ValueType {
     fn fits(self, value: &Value) -> bool {
         match self {
-            Form::Integer => value.is_integer(),
-            Form::Text => value.is_str(),
-            Form::Sort => matches!(value.as_str(), Some("words" | "flags")),
-            Form::Integers => are_integers(value),
-            Form::Tokens => are_tokens(value),
-            Form::Array => value.is_array(),
+            ValueType::Integer => value.is_integer(),
+            ValueType::Text => value.is_str(),
+            ValueType::Sort => matches!(value.as_str(), Some("words" | "flags")),
+            ValueType::Integers => are_integers(value),
+            ValueType::Tokens => are_tokens(value),
+            ValueType::Array => value.is_array(),
         }
     }
 
     fn words(self) -> &'static str {
         match self {
-            Form::Integer => "an integer",
-            Form::Text => "a text",
-            Form::Sort => "\"words\" or \"flags\"",
-            Form::Integers => "an array of integers",
-            Form::Tokens => "an array of integers and booleans",
-            Form::Array => "an array of tables",
+            ValueType::Integer => "an integer",
+            ValueType::Text => "a text",
+            ValueType::Sort => "\"words\" or \"flags\"",
+            ValueType::Integers => "an array of integers",
+            ValueType::Tokens => "an array of integers and booleans",
+            ValueType::Array => "an array of tables",
         }
     }
 }
@@ -49,34 +49,34 @@ enum Presence {
 }
 
 #[derive(Clone, Copy)]
-struct Key(&'static str, Form, Presence);
+struct Key(&'static str, ValueType, Presence);
 
 /// The keys at the top level: the first is the version, the last only in version 2.
 static TOP: [Key; 5] = [
-    Key("version", Form::Integer, Required),
-    Key("budget", Form::Integer, Optional),
-    Key("process", Form::Array, Required),
-    Key("channel", Form::Array, Optional),
-    Key("step", Form::Integer, Optional),
+    Key("version", ValueType::Integer, Required),
+    Key("budget", ValueType::Integer, Optional),
+    Key("process", ValueType::Array, Required),
+    Key("channel", ValueType::Array, Optional),
+    Key("step", ValueType::Integer, Optional),
 ];
 
 static PROCESS: [Key; 3] = [
-    Key("name", Form::Text, Required),
-    Key("kind", Form::Text, Required),
-    Key("args", Form::Integers, Optional),
+    Key("name", ValueType::Text, Required),
+    Key("kind", ValueType::Text, Required),
+    Key("args", ValueType::Integers, Optional),
 ];
 
 /// The keys of a channel: the last two only in version 2, and the last only where channels may have delays.
 static CHANNEL: [Key; 9] = [
-    Key("name", Form::Text, Required),
-    Key("from", Form::Text, Required),
-    Key("to", Form::Text, Required),
-    Key("out", Form::Integer, Optional),
-    Key("in", Form::Integer, Optional),
-    Key("sort", Form::Sort, Optional),
-    Key("capacity", Form::Integer, Optional),
-    Key("tokens", Form::Tokens, Optional),
-    Key("delay", Form::Integer, Optional),
+    Key("name", ValueType::Text, Required),
+    Key("from", ValueType::Text, Required),
+    Key("to", ValueType::Text, Required),
+    Key("out", ValueType::Integer, Optional),
+    Key("in", ValueType::Integer, Optional),
+    Key("sort", ValueType::Sort, Optional),
+    Key("capacity", ValueType::Integer, Optional),
+    Key("tokens", ValueType::Tokens, Optional),
+    Key("delay", ValueType::Integer, Optional),
 ];
 
 /// An array of tables: its key, the header of each table, and the keys of each.

@@ -21,7 +21,7 @@ SomeIsLive M = (p : ℕ) × (status M p ≢ Done)
 abbrev pub NoneIsBlocked : Family → Network → State → Type 0
 NoneIsBlocked kinds net M = (p c : ℕ) → IsBlocked kinds net M p c → ⊥
 
--- the channel that would grow has the greatest capacity
+-- the channel that would grow is as large as the ceiling
 abbrev pub ChosenIsAtCeiling : Family → Network → State → Type 0
 ChosenIsAtCeiling kinds net M = (c : ℕ) × IsChosen kinds net M c × (capacity M c ≡ net.ceiling)
 

@@ -1,5 +1,5 @@
 -- What is read off a history.
-use Rattle.std.specs.Prelude.{◌≡◌, ◌⊎◌, ◌++◌, ℕ, ◌==◌, if◌then◌else◌, List, [], ◌∷◌, Option, Some, None, length, drop, map}
+use Rattle.std.specs.Prelude.{◌≡◌, ◌⊎◌, ◌++◌, ℕ, ◌==◌, if◌then◌else◌, List, [], ◌∷◌, Option, Some, None, length, drop, map, flat_map}
 use Rattle.std.specs.List.{range_with_len}
 use Rattle.kpn_model.specs.declared.token.Token.{Token}
 use Rattle.kpn_model.specs.declared.kinds.Act.{Act}
@@ -15,29 +15,51 @@ use Rattle.kpn_model.specs.declared.history.Place.TheVariants.{Stopped, Reads, W
 use Rattle.kpn_model.specs.Network.{Family, Network, channel_of, in_of, out_of}
 use Rattle.kpn_model.specs.Semantics.{State, wants}
 
+-- the deed of an entry, if p did it
+abbrev pub deed_by : ℕ → Entry → List Deed
+deed_by p (Did q d) = if q == p then d ∷ [] else []
+deed_by p (Grew c to) = []
+
 abbrev pub deeds : List Entry → ℕ → List Deed
-deeds [] p = []
-deeds (Did q d ∷ es) p = if q == p then d ∷ deeds es p else deeds es p
-deeds (Grew c to ∷ es) p = deeds es p
+deeds E p = flat_map (deed_by p) E
+
+-- the token that a deed put on c, if it did
+abbrev pub put_by_deed : ℕ → Deed → List Token
+put_by_deed c (Put b t) = if b == c then t ∷ [] else []
+put_by_deed c _ = []
+
+-- the token that an entry put on c, if it did
+abbrev pub put_by_entry : ℕ → Entry → List Token
+put_by_entry c (Did p d) = put_by_deed c d
+put_by_entry c (Grew b to) = []
 
 abbrev pub put_on : List Entry → ℕ → List Token
-put_on [] c = []
-put_on (Did p (Put b t) ∷ es) c = if b == c then t ∷ put_on es c else put_on es c
-put_on (_ ∷ es) c = put_on es c
+put_on E c = flat_map (put_by_entry c) E
 
 -- what went through c: its start tokens, then those put on it
 abbrev pub stream : Network → List Entry → ℕ → List Token
 stream net E c = (channel_of net c).tokens ++ put_on E c
 
+-- the token that a deed took from c, if it did
+abbrev pub taken_by_deed : ℕ → Deed → List Token
+taken_by_deed c (Took b t) = if b == c then t ∷ [] else []
+taken_by_deed c _ = []
+
+-- the token that an entry took from c, if it did
+abbrev pub taken_by_entry : ℕ → Entry → List Token
+taken_by_entry c (Did p d) = taken_by_deed c d
+taken_by_entry c (Grew b to) = []
+
 abbrev pub taken : List Entry → ℕ → List Token
-taken [] c = []
-taken (Did p (Took b t) ∷ es) c = if b == c then t ∷ taken es c else taken es c
-taken (_ ∷ es) c = taken es c
+taken E c = flat_map (taken_by_entry c) E
+
+-- the channel that grew by an entry and its new capacity, if it is a growth
+abbrev pub growth_of : Entry → List (ℕ × ℕ)
+growth_of (Grew c to) = (c, to) ∷ []
+growth_of (Did p d) = []
 
 abbrev pub growths : List Entry → List (ℕ × ℕ)
-growths [] = []
-growths (Grew c to ∷ es) = (c, to) ∷ growths es
-growths (Did p d ∷ es) = growths es
+growths E = flat_map growth_of E
 
 -- the capacity of c after these growths, from n
 abbrev pub grown : ℕ → List (ℕ × ℕ) → ℕ → ℕ

@@ -55,7 +55,7 @@ BudgetSuffices kinds =
     (net : Network) (E F : List Entry) (M N : State) (a b : End) → IsRun kinds net E M → MayEnd kinds net E M a
     → IsFinal kinds net F N b → length F < net.budget → a ≢ Budget
 
--- p wants to do some deed
+-- p can do some deed
 abbrev pub CanDo : Family → Network → State → ℕ → Type 0
 CanDo kinds net M p = (d : Deed) × ((N : State) × Does kinds net M p d N)
 

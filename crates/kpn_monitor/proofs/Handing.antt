@@ -4,6 +4,7 @@ use Rattle.std.specs.Prelude.{◌≢◌, Option, Some, None, IsSome, MatchOption
 use mathlib.Core.List.{IsPrefix}
 use Rattle.kpn_watch.proofs.Fronts.{prefix_self, prefix_trans}
 use Rattle.std.specs.List.{All, sum_by}
+use Rattle.std.proofs.lemmas.Option.{same_Some}
 use Rattle.std.proofs.lemmas.List.Sums.{sum_by-cons}
 use Rattle.std.proofs.lemmas.List.Elements.{All-append}
 use Rattle.kpn_model.specs.declared.history.End.{End}
@@ -28,14 +29,11 @@ answers_put kinds tasks [] i are = tt
 answers_put kinds [] (a ∷ answers) i are = absurd are
 answers_put kinds (t ∷ tasks) (a ∷ answers) i are = (are.0, answers_put kinds tasks answers i are.1)
 
-some_same : {X : Type 0} (x y : X) → Some x ≡ Some y → x ≡ y
-some_same x y is = cc
-
 -- one more answer, to the first task that had none
 pub answers_called : (kinds : Family) (tasks : List Input) (answers : List Answer) (i : Input) (a : Answer) → slice_get tasks (length answers) ≡ Some i → a ≡ answer_to kinds i
     → AreAnswers kinds tasks answers → AreAnswers kinds tasks (answers ++ a ∷ [])
 answers_called kinds [] [] i a at is are = absurd (cc)
-answers_called kinds (t ∷ tasks) [] i a at is are = (is ∙ ap (answer_to kinds) (sym (some_same t i at)), tt)
+answers_called kinds (t ∷ tasks) [] i a at is are = (is ∙ ap (answer_to kinds) (sym (same_Some t i at)), tt)
 answers_called kinds [] (b ∷ answers) i a at is are = absurd are
 answers_called kinds (t ∷ tasks) (b ∷ answers) i a at is are = (are.0, answers_called kinds tasks answers i a at is are.1)
 

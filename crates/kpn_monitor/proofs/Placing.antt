@@ -26,9 +26,6 @@ tasks_many [] taken = refl
 tasks_many (None ∷ xs) taken = absurd taken
 tasks_many (Some i ∷ xs) taken = ap suc (tasks_many xs taken)
 
-some_same : {X : Type 0} (x y : X) → Some x ≡ Some y → x ≡ y
-some_same x y is = cc
-
 pub none_when : {X : Type 0} (o : Option X) (P : Type 0) → (o ≡ None → P) → IfNone o P
 none_when None P then = then refl
 none_when (Some x) P then = tt

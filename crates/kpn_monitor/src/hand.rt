@@ -164,9 +164,9 @@ impl Sharer {
     }
 
     /// Whether the worker wants to rest for the first time.
-    pub(crate) fn wants_rest_anew(&mut self) -> bool {
-        let anew = !self.wanted_rest;
+    pub(crate) fn is_first_rest(&mut self) -> bool {
+        let is_first = !self.wanted_rest;
         self.wanted_rest = true;
-        anew
+        is_first
     }
 }

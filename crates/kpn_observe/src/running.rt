@@ -36,7 +36,7 @@ use std::time::Duration;
 pub enum WatchedFault<B: Body> {
     /// The observer stopped the run before its start. Nothing has run; returns everything unchanged.
     Stopped { net: Net<B::Kinds>, bodies: Vec<B> },
-    /// As a run without an observer fails.
+    /// The run failed, as one without an observer may.
     Failed(RunFault<B>),
 }
 

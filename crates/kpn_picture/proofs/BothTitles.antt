@@ -55,7 +55,7 @@ module _ (s t : Card → Option Signature) where
     second_means odd None (Some own) is = second_alone odd own is
     second_means odd (Some other) (Some own) is = inr (λ args. refl)
 
-  -- the same of the titles of both, if none of the arguments is below 0
+  -- the names in the titles of both mean their kinds, if none of the arguments is below 0
   module _ (f g : List ℕ → Option (ℕ × ℕ)) (u v : ℕ → List ℕ × ℕ) (card : Card) where
     pub first_named :
         (card.kind % 2 == 0) ≡ true → (below card (u (card.kind / 2)).1 ≡ 0 → MeansKind s (f (u (card.kind / 2)).0) (card.kind / 2, (u (card.kind / 2)).1))

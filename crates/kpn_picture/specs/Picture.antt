@@ -298,8 +298,8 @@ abbrev pub edge_lines : Network → KindTitles → List Place → List ℕ → L
 edge_lines net title places capacities rests =
     lines_upto (edge_line net places capacities rests title (has_rows net)) (length net.channels)
 
--- the picture of a network, whose processes may have titles, or of a run that ended like this
 module _ (direction : Direction) (titles : List (List ℕ)) (title : KindTitles) (net : Network) (end : Option End) where
+  -- the picture of a network, whose processes may have titles, or of a run that ended like this
   abbrev pub picture : List Place → List ℕ → List (List Token) → List ℕ
   picture places capacities rests =
       head direction ++ caption net places end ++ nodes net title titles places

@@ -7,10 +7,11 @@ use Rattle.kpn_model.specs.declared.history.Entry.{Entry}
 use Rattle.kpn_model.specs.declared.history.Entry.TheVariants.{Did, Grew}
 use Rattle.kpn_model.specs.History.{deeds, put_on, taken, growths}
 use Rattle.kpn_laws.proofs.Views.{growths-append}
+use Rattle.kpn_laws.proofs.Together.{deeds-length}
 use Rattle.kpn_report.specs.Tally.{Tabulates, steps_after}
 use Rattle.kpn_report.specs.Tallied.{AreCounts, puts_after, takes_after, grew_after}
 use Rattle.kpn_report.proofs.Tables.{changed, unchanged, at_most}
-use Rattle.kpn_report.proofs.Tallies.{pushes, flip, same, steps_kept, deeds_fewer, put_fewer, taken_fewer}
+use Rattle.kpn_report.proofs.Tallies.{pushes, flip, same, steps_kept, put_fewer, taken_fewer}
 
 module _ (E : List Entry) where
   puts_kept : (n : ℕ) (puts : List ℕ) → Tabulates 0 n (λ c. length (put_on E c)) puts → (e : Entry) → Tabulates 0 n (λ c. length (put_on (E ++ e ∷ []) c)) (puts_after puts e)
@@ -40,7 +41,7 @@ module _ (E : List Entry) where
 
   module _ (steps puts takes : List ℕ) (grew : Bool) (k : AreCounts E steps puts takes grew) where
     pub few_steps : (p : ℕ) → get_or steps p 0 ≤ length E
-    few_steps = at_most 0 MOST_PROCESSES (λ p. length (deeds E p)) steps k.of_steps (λ n. n) (length E) refl (deeds_fewer E)
+    few_steps = at_most 0 MOST_PROCESSES (λ p. length (deeds E p)) steps k.of_steps (λ n. n) (length E) refl (deeds-length E)
 
     pub few_puts : (c : ℕ) → get_or puts c 0 ≤ length E
     few_puts = at_most 0 MOST_CHANNELS (λ c. length (put_on E c)) puts k.of_puts (λ n. n) (length E) refl (put_fewer E)

@@ -11,6 +11,7 @@ use Rattle.kpn_model.specs.Network.{Network, Family, channel_of}
 use Rattle.kpn_model.specs.Semantics.{State, wants}
 use Rattle.kpn_model.specs.History.{each_channel, deeds, put_on, stream, taken, growths, each_process, place_of, grown, digest}
 use Rattle.kpn_laws.proofs.Views.{deeds_push_same, deeds_push_other, deeds_push_grew, put_on-append, taken-append, growths-append, grown_push}
+use Rattle.kpn_laws.proofs.Together.{deeds-length}
 use Rattle.kpn_report.specs.declared.channel_counts.ChannelCounts.{ChannelCounts}
 use Rattle.kpn_report.specs.declared.detail.Detail.{Detail}
 use Rattle.kpn_report.specs.Reported.{digest_with}
@@ -58,15 +59,9 @@ module _ (net : Network) (E : List Entry) where
         → rests ≡ each_channel net (λ c. drop (length (taken E c)) (stream net E c))
     rests_listed channel_counts rests a r = fill_by_all (λ c. drop (length (taken E c)) (stream net E c)) rests (length net.channels) [] (r.count ∙ k.count) (λ c l. r.each c (omega (arith, k.count)) ∙ rw (a.each c l, k.each c l))
 
-fewer_of_choice : {X : Type 0} (b : Bool) (x : X) (xs : List X) (n : ℕ) → length xs ≤ n → length (cond b (x ∷ xs) xs) ≤ suc n
+fewer_of_choice : {X : Type 0} (b : Bool) (x : X) (xs : List X) (n : ℕ) → length xs ≤ n → length (cond b (x ∷ []) [] ++ xs) ≤ suc n
 fewer_of_choice true x xs n h = omega arith
 fewer_of_choice false x xs n h = omega arith
-
--- a process does at most as many deeds as there are entries
-pub deeds_fewer : (E : List Entry) (p : ℕ) → length (deeds E p) ≤ length E
-deeds_fewer [] p = omega arith
-deeds_fewer (Did q d ∷ es) p = fewer_of_choice (q == p) d (deeds es p) (length es) (deeds_fewer es p)
-deeds_fewer (Grew c to ∷ es) p = omega (arith, deeds_fewer es p)
 
 -- at most as many tokens are taken from a channel as there are entries
 pub taken_fewer : (E : List Entry) (c : ℕ) → length (taken E c) ≤ length E
@@ -86,7 +81,7 @@ put_fewer (Grew b to ∷ es) c = omega (arith, put_fewer es c)
 
 module _ (net : Network) (E : List Entry) where
   pub few_deeds : (steps : List ℕ) → CountsSteps net E steps → (p : ℕ) → get_or steps p 0 ≤ length E
-  few_deeds steps k = at_most 0 (length net.processes) (λ q. length (deeds E q)) steps k (λ n. n) (length E) refl (deeds_fewer E)
+  few_deeds steps k = at_most 0 (length net.processes) (λ q. length (deeds E q)) steps k (λ n. n) (length E) refl (deeds-length E)
 
   module _ (channel_counts : List ChannelCounts) (k : KeepsCounts net E channel_counts) where
     pub few_taken : (c : ℕ) → (counts_at channel_counts c).taken ≤ length E

@@ -2,7 +2,7 @@
 use Rattle.std.proofs.Common.{◌≡◌, ℕ, zero, suc, ◌-◌, ◌<◌, ◌≤◌, ◌==◌, nat_lt, if◌then◌else◌, Bool, true, false, List, [], ◌∷◌, ◌++◌, length, take, Option, Some, None, IsSome, option_and_then, refl, sym, subst, ltb-true, arith}
 use Rattle.std.specs.Option.{option_map_or}
 use Rattle.std.specs.Prelude.{IfSome}
-use Rattle.std.specs.List.{All, AllByRecursion}
+use Rattle.std.specs.List.{AllByRecursion}
 use Rattle.kpn_model.specs.declared.token.Token.{Token}
 use Rattle.kpn_model.specs.declared.token.Token.TheVariants.{Word, Flag}
 use Rattle.kpn_model.specs.declared.token.Sort.{Sort}
@@ -13,29 +13,11 @@ use Rattle.kpn_model.specs.declared.kinds.Act.TheVariants.{Read, Write, Stop}
 use Rattle.kpn_model.specs.declared.kinds.Answer.{Answer}
 use Rattle.kpn_model.specs.Lawful.{sort_of, Fits, CardFits, port_at, NamesPort, LeadsOn, AreLawful}
 use Rattle.kpn_standard.specs.Locals.{at, LastFits}
-use Rattle.kpn_compute.specs.Filters.{IsWord, AreKept, OfEachCard, OfAllKept}
+use Rattle.kpn_compute.specs.Filters.{IsWord, AreKept, OfAllKept}
+use Rattle.kpn_compute.proofs.FilteredLawful.{each_card, all_kept}
 use Rattle.kpn_rounds.specs.declared.turns.TheConstants.{ONE_READ, TWO_READ, ONE_LEFT, TWO_LEFT}
 use Rattle.kpn_rounds.specs.Steps.{count, AreMade, MakesWords, StepWords}
 use Rattle.kpn_rounds.specs.Rounds.{number_of, token_of, token_at, latest, three_of, packed, held, is_narrow, is_wide, carried, with_inputs, with_outputs, read_in, left_in, write_answer, made_by, read_answer, next_answer, round_answer, IsWithinRound, rounds_family, RoundsAdmit}
-
--- what holds of three words written out holds of a list of three
-of_three : (P : List ℕ → Type 0) (xs : List ℕ) → length xs ≡ 3 → All IsWord xs → ((x y z : ℕ) → IsWord x → IsWord y → IsWord z → P (x ∷ y ∷ z ∷ [])) → P xs
-of_three P [] three words holds = absurd (omega (arith, three))
-of_three P (x ∷ []) three words holds = absurd (omega (arith, three))
-of_three P (x ∷ y ∷ []) three words holds = absurd (omega (arith, three))
-of_three P (x ∷ y ∷ z ∷ []) three words holds = holds x y z (words 0 0 (omega arith)) (words 1 0 (omega arith)) (words 2 0 (omega arith))
-of_three P (x ∷ y ∷ z ∷ u ∷ us) three words holds = absurd (omega (arith, three))
-
-each_card : (P : Card → Type 0) → OfEachCard P → (card : Card) → CardFits card → P card
-each_card P holds card fits = of_three (λ args. P (record { kind = card.kind; args = args })) card.args fits.three fits.args (λ x y z. holds card.kind x y z fits.kind)
-
-all_kept : (P : List ℕ → Type 0) → OfAllKept P → (kept : List ℕ) → AreKept kept → P kept
-all_kept P holds [] words = absurd words
-all_kept P holds (a ∷ []) words = absurd words
-all_kept P holds (a ∷ b ∷ []) words = absurd words
-all_kept P holds (a ∷ b ∷ c ∷ []) words = absurd words
-all_kept P holds (a ∷ b ∷ c ∷ d ∷ []) words = holds a b c d words.0 words.1 words.2 words.3
-all_kept P holds (a ∷ b ∷ c ∷ d ∷ e ∷ es) words = absurd words
 
 -- a word that is kept fits
 kept_word : (kept : List ℕ) (k : ℕ) → k < 4 → AreKept kept → IsWord (at kept k)

@@ -42,7 +42,7 @@ const LOOKS: u64 = 4;
 const LONGEST_LOOK: u64 = 50_000;
 
 #[derive(Clone, Copy)]
-pub(crate) enum Turn {
+pub(crate) enum NextStep {
     Go,
     Pause,
     Rest(Rest),
@@ -141,11 +141,11 @@ impl Pace {
         }
     }
 
-    pub(crate) fn exchanged(&mut self, next: Next, now: u64) -> Turn {
+    pub(crate) fn exchanged(&mut self, next: Next, now: u64) -> NextStep {
         self.exchanging = now.saturating_sub(self.then);
         self.then = now;
         if self.in_place > 0 {
-            return Turn::Go;
+            return NextStep::Go;
         }
         match next {
             Next::Tasks | Next::Over(_) => {
@@ -153,20 +153,20 @@ impl Pace {
                 if self.calling < BRIEF && self.strain == 0 {
                     self.untimed = UNTIMED_ROUNDS;
                 }
-                Turn::Go
+                NextStep::Go
             }
             Next::Nothing => self.step_without_task(),
         }
     }
 
-    fn step_without_task(&mut self) -> Turn {
+    fn step_without_task(&mut self) -> NextStep {
         self.looking = self.looking.saturating_add(self.exchanging);
         if self.strain >= PATIENCE {
-            Turn::Rest(Rest::Spare)
+            NextStep::Rest(Rest::Spare)
         } else if self.looking > self.calling.saturating_mul(LOOKS).min(LONGEST_LOOK) {
-            Turn::Rest(Rest::Idle)
+            NextStep::Rest(Rest::Idle)
         } else {
-            Turn::Pause
+            NextStep::Pause
         }
     }
 

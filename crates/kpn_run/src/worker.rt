@@ -2,7 +2,7 @@
 ghost use Rattle.std.specs.Prelude.{◌≡◌, false, [], length, IfNone, IsTrue};
 
 use crate::gate::Gate;
-use crate::pace::{Pace, Turn};
+use crate::pace::{NextStep, Pace};
 use crate::stop_signal::{Orders, StopSignal};
 use kpn_body::{Body, Finished};
 use kpn_machine::Stranger;
@@ -178,16 +178,16 @@ fn take_turn<B: Body, H: Keeper, E: EntryLedger, O: Ledger, R: Wait + Clock>(
     monitor: &Monitor<B, E, O, H>,
     hand: &mut Hand<B>,
     timed: &mut TimedPace,
-    turn: Turn,
+    turn: NextStep,
 ) {
     match turn {
-        Turn::Go => {}
-        Turn::Pause => {
+        NextStep::Go => {}
+        NextStep::Pause => {
             for _ in 0..PAUSES {
                 spin_loop();
             }
         }
-        Turn::Rest(why) => {
+        NextStep::Rest(why) => {
             let long = match why {
                 Rest::Spare => SPARE_REST,
                 Rest::Idle => IDLE_REST,

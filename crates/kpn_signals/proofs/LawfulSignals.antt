@@ -9,7 +9,7 @@ use Rattle.kpn_model.specs.Lawful.{Fits, CardFits, AreLawful}
 use Rattle.kpn_standard.specs.Locals.{at, got, word, flag, one, stays, IsLocal, LastFits}
 use Rattle.kpn_standard.specs.Table.{one_word, one_flag, word_and_flag}
 use Rattle.kpn_standard.specs.Signatures.{given}
-use Rattle.kpn_standard.proofs.Laws.{passes}
+use Rattle.kpn_standard.proofs.Laws.{passes, by_flag}
 use Rattle.kpn_signals.specs.declared.signal.Signal.{Signal}
 use Rattle.kpn_signals.specs.declared.signal.Signal.TheVariants.{Input, InputFlags, Drain, DrainFlags, Constant, CountUp, Sub, Mul, Shift, Left, Less, Equal, Not, And, Or, Decimate, Repeat, Hold, Delay, LowPass, Clip, SignedConstant, SignedHold, SignedClip, SignedScale, SignedPrefix, CopyFlags, Min, Max, Abs, Offset, Gain, Div, Mod, Sum, Difference, Average, Counter, Edge, Noise, Gate, SignedOffset, SignedGain}
 use Rattle.kpn_signals.specs.declared.turns.TheConstants.{READS_FIRST, READS_SECOND}
@@ -25,7 +25,7 @@ use Rattle.kpn_signals.specs.Table.{two_flags, row_of, numbered}
 use Rattle.kpn_signals.specs.Signatures.{accepts, signature_of_kind, ports}
 use Rattle.kpn_signals.specs.Family.{answer_of, start_of, signals}
 use Rattle.kpn_signals.proofs.Numbers.{local_word, below_fits, bound_fits, right_shift_fits, next_level_fits, nearest_fits, least_fits, greatest_fits, size_fits, wrapped_fits, quotient_fits, mixed_fits}
-use Rattle.kpn_signals.proofs.Laws.{IsLawful, by_flag, number_fits, got_fits, stops, reads, writes, step_lawful, join_lawful}
+use Rattle.kpn_signals.proofs.Laws.{IsLawful, number_fits, got_fits, stops, reads, writes, step_lawful, join_lawful}
 
 -- the word of a token that fits
 word_fits : (t : Token) → Fits t → word t < 2 ^ 64

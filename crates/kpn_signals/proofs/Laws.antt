@@ -1,5 +1,5 @@
 -- What the laws ask of an answer: of a read, a write, a stop, and of the two shapes of kinds.
-use Rattle.std.proofs.Common.{◌≡◌, ℕ, ◌<◌, ◌^◌, ◌==◌, if◌then◌else◌, Bool, true, false, List, Option, Some, None, IsSome, option_and_then, sym, ◌∙◌, ap, subst, arith}
+use Rattle.std.proofs.Common.{◌≡◌, ℕ, ◌<◌, ◌^◌, ◌==◌, true, false, List, Option, Some, None, IsSome, option_and_then, sym, ◌∙◌, ap, subst, arith}
 use Rattle.kpn_model.specs.declared.token.Token.{Token}
 use Rattle.kpn_model.specs.declared.token.Token.TheVariants.{Word, Flag}
 use Rattle.kpn_model.specs.declared.token.Sort.{Sort}
@@ -9,6 +9,7 @@ use Rattle.kpn_model.specs.declared.kinds.Act.TheVariants.{Read, Write, Stop}
 use Rattle.kpn_model.specs.declared.kinds.Answer.{Answer}
 use Rattle.kpn_model.specs.Lawful.{sort_of, Fits, port_at, in_sort, out_sort, NamesPort, LeadsOn}
 use Rattle.kpn_standard.specs.Locals.{at, got, IsLocal, LastFits}
+use Rattle.kpn_standard.proofs.Laws.{by_flag}
 use Rattle.kpn_signals.specs.declared.turns.TheConstants.{READS_FIRST, READS_SECOND}
 use Rattle.kpn_signals.specs.Shapes.{step_answer, number_of, join_answer, Admitted}
 use Rattle.kpn_signals.specs.Signatures.{ports}
@@ -18,11 +19,6 @@ use Rattle.kpn_signals.proofs.Numbers.{local_word}
 pub record IsLawful (card : Card) (answer : Answer) : Type 0 where
   pub names_port : NamesPort ports card answer.act
   pub leads_on : (token : Token) → LeadsOn ports (λ _. Admitted) card answer token
-
--- what holds of both branches holds of the conditional
-pub by_flag : (P : Answer → Type 0) (f : Bool) (a b : Answer) → P a → P b → P (if f then a else b)
-by_flag P true a b p q = p
-by_flag P false a b p q = q
 
 -- a token that fits is a number of 64 bits
 pub number_fits : (token : Token) → Fits token → number_of token < 2 ^ 64

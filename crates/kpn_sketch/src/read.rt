@@ -7,7 +7,7 @@ ghost use Rattle.kpn_sketch.specs.Form.{Reads, required, optional, has_only};
 ghost use Rattle.kpn_sketch.specs.Description.{Describes, DescribesDelayed, IsDelayedFault, IsReadFault, delayed_of, sketch_by, top_keys, channel_keys, channel_from, IsTomlErrorOf};
 
 use crate::fault::NetFault;
-use crate::form::{Form, Reading, find, has_only, optional, required};
+use crate::form::{Reading, TomlForm, find, has_only, optional, required};
 use crate::sketch::{ChannelSketch, Delay, Delayed, ProcessSketch, Sketch, TokenSketch};
 use kpn_model::limits::DEFAULT_BUDGET;
 use kpn_model::version::is_two;
@@ -130,7 +130,7 @@ fn sketch_by(alloc: Global, has_delays: bool, table: &Table) -> Result<Sketch, N
     })
 }
 
-impl Form for ProcessSketch {
+impl TomlForm for ProcessSketch {
     ghost use Rattle.kpn_sketch.specs.Description.{described_process};
 
     ghost form = { λ reading. described_process };
@@ -199,7 +199,7 @@ fn channel_from(alloc: Global, reading: Reading, table: &Table) -> Result<Channe
     })
 }
 
-impl Form for ChannelSketch {
+impl TomlForm for ChannelSketch {
     ghost use Rattle.kpn_sketch.specs.Description.{described_channel};
 
     ghost form = { described_channel };
@@ -214,7 +214,7 @@ impl Form for ChannelSketch {
     }
 }
 
-impl Form for Delay {
+impl TomlForm for Delay {
     ghost use Rattle.kpn_sketch.specs.Description.{described_delay};
 
     ghost form = { λ reading. described_delay };
@@ -229,7 +229,7 @@ impl Form for Delay {
     }
 }
 
-impl Form for TokenSketch {
+impl TomlForm for TokenSketch {
     ghost use Rattle.kpn_sketch.specs.Description.{token_of};
 
     ghost form = { λ reading. token_of };
@@ -243,7 +243,7 @@ impl Form for TokenSketch {
     }
 }
 
-impl Form for Sort {
+impl TomlForm for Sort {
     ghost use Rattle.kpn_sketch.specs.Description.{described_sort};
 
     ghost form = { λ reading. described_sort };

@@ -51,7 +51,7 @@ below_or_at P m n h below at_end = go (nat_lt m n) refl
     go true e = below (ltb-true m n e)
     go false e = let above : n ≤ m = ltb-false m n e in at_end (omega arith)
 
--- the same with a flag for the test
+-- what holds of two answers holds of the one that a flag chooses
 pub by_flag : (P : Answer → Type 0) (f : Bool) (a b : Answer) → P a → P b → P (if f then a else b)
 by_flag P true a b p q = p
 by_flag P false a b p q = q

@@ -1,14 +1,12 @@
 -- Local states, last tokens and answers. A local state is written with its first numbers; the others are 0.
-use Rattle.std.specs.Prelude.{ℕ, ◌<◌, ◌^◌, Bool, false, List, [], ◌∷◌, Option, Some, None, get_or}
+use Rattle.std.specs.Prelude.{ℕ, ◌<◌, ◌^◌, Bool, false, List, [], ◌∷◌, Option, Some, None}
 use Rattle.kpn_model.specs.declared.token.Token.{Token}
 use Rattle.kpn_model.specs.declared.token.Token.TheVariants.{Word, Flag}
 use Rattle.kpn_model.specs.declared.kinds.Act.{Act}
 use Rattle.kpn_model.specs.declared.kinds.Act.TheVariants.{Stop}
 use Rattle.kpn_model.specs.declared.kinds.Answer.{Answer}
 use Rattle.kpn_model.specs.Lawful.{Fits}
-
-abbrev pub at : List ℕ → ℕ → ℕ
-at xs k = get_or xs k 0
+pub use Rattle.kpn_compute.specs.KindTable.{at}
 
 abbrev pub one : ℕ → List ℕ
 one a = a ∷ 0 ∷ 0 ∷ 0 ∷ []

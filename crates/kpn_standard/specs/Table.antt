@@ -1,30 +1,12 @@
 -- The table of the twelve standard kinds.
-use Rattle.std.specs.Prelude.{ℕ, ◌==◌, List, [], ◌∷◌, Option, Some, None, codes}
+use Rattle.std.specs.Prelude.{ℕ, ◌==◌, List, [], ◌∷◌, Option, codes}
 use Rattle.std.specs.List.{find}
 use Rattle.std.specs.Str.{bytes_eq}
 use Rattle.kpn_model.specs.declared.token.Sort.{Sort}
-use Rattle.kpn_model.specs.declared.token.Sort.TheVariants.{Words, Flags}
+pub use Rattle.kpn_compute.specs.KindTable.{no_port, one_word, two_words, one_flag, word_and_flag, two_words_and_flag}
 use Rattle.kpn_standard.specs.declared.kind.Kind.{Kind}
 use Rattle.kpn_standard.specs.declared.kind.Row.{Row as CodeRow}
 use Rattle.kpn_standard.specs.declared.kind.Kind.TheVariants.{Count, Sink, Take, Copy, Prefix, Add, Scale, Weave, Merge, Divides, Switch, Select}
-
-abbrev pub no_port : List (Option Sort)
-no_port = None ∷ None ∷ None ∷ []
-
-abbrev pub one_word : List (Option Sort)
-one_word = Some Words ∷ None ∷ None ∷ []
-
-abbrev pub two_words : List (Option Sort)
-two_words = Some Words ∷ Some Words ∷ None ∷ []
-
-abbrev pub one_flag : List (Option Sort)
-one_flag = Some Flags ∷ None ∷ None ∷ []
-
-abbrev pub word_and_flag : List (Option Sort)
-word_and_flag = Some Words ∷ Some Flags ∷ None ∷ []
-
-abbrev pub two_words_and_flag : List (Option Sort)
-two_words_and_flag = Some Words ∷ Some Words ∷ Some Flags ∷ []
 
 pub record Row : Type 0 where
   pub number : ℕ

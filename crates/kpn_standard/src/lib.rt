@@ -1,4 +1,4 @@
-//! The family of the twelve standard kinds: names, arguments, ports and answers.
+//! The family of the twelve standard kinds: names, arguments, ports, answers and bodies.
 //!
 //! ```text
 //! let net: Net<Standard> = made.check().expect(&rt, "a fault");
@@ -7,6 +7,7 @@
 
 pub mod answers;
 pub mod arithmetic;
+pub mod body;
 pub mod copies;
 pub mod ends;
 pub mod flags;
@@ -17,6 +18,7 @@ mod token;
 
 pub use answers::answer;
 pub use arithmetic::{add, scale};
+pub use body::{Call, StandardBody, by_words};
 pub use copies::{copy, prefix, take};
 pub use ends::{count, sink};
 pub use flags::{divides, select, switch};

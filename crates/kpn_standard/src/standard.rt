@@ -3,8 +3,10 @@ ghost use Rattle.kpn_standard.specs.Standard.{standard};
 ghost use Rattle.kpn_standard.specs.Signatures.{named as number_named, signature as standard_signature};
 ghost use Rattle.kpn_standard.specs.Admitted.{Admitted};
 
+use crate::answers::answer;
 use crate::kind::Kind;
-use kpn_model::{Card, Kinds, Local, Signature};
+use kpn_compute::Computes;
+use kpn_model::{Answer, Card, Kinds, Local, Signature, Token};
 
 /// The family of the twelve standard kinds.
 pub struct Standard;
@@ -43,4 +45,11 @@ impl Kinds for Standard {
 
     #[tactic(auto, using(crate::proofs::LawfulKinds::standard_lawful))]
     fn lawful() {}
+}
+
+impl Computes for Standard {
+    #[inline(always)]
+    fn answer(card: Card, local: Local, last: Option<Token>) -> Answer {
+        answer(card, local, last)
+    }
 }

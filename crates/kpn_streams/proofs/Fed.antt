@@ -18,6 +18,12 @@ chosen test a b e = ap (λ (x : Bool). if x then a else b) e
 pub chosen_else : {A : Type 0} (test : Bool) (a b : A) → test ≡ false → (if test then a else b) ≡ b
 chosen_else test a b e = ap (λ (x : Bool). if x then a else b) e
 
+-- a token more leaves as many lists
+pub length-put_first : (t : Token) (k : ℕ) (ls : List (List Token)) → length (put_first t k ls) ≡ length ls
+length-put_first t k [] = refl
+length-put_first t zero (l ∷ ls) = refl
+length-put_first t (suc k) (l ∷ ls) = ap suc (length-put_first t k ls)
+
 module _ (kinds : Family) (card : Card) where
   -- what it writes to as many outputs is the same each time
   pub one_writing :

@@ -51,7 +51,7 @@ module _ (others : List ℕ) where
   abbrev Goes : Status → List ℕ → List ℕ → List ℕ → Type 0
   Goes s xs ys zs = WritesFrom standard merger s (words xs ∷ words ys ∷ []) (words zs ∷ [])
 
-  -- the same where it holds the head of the first stream already; and of the second
+  -- so it goes where it holds the head of the first stream already; and of the second
   abbrev WithFirst : List ℕ → List ℕ → List ℕ → Type 0
   WithFirst [] ys zs = Unit {0}
   WithFirst (x ∷ xs) ys zs = Goes (Live (two 4 x) None) xs ys zs

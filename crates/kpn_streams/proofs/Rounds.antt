@@ -1,7 +1,8 @@
 -- What kinds that go in rounds write.
-use Rattle.std.proofs.Common.{◌≡◌, ◌∙◌, sym, ap, subst, ℕ, zero, suc, ◌+◌, ◌-◌, ◌<◌, ◌≤◌, nat_lt, ◌&&◌, ◌||◌, if◌then◌else◌, Bool, true, false, List, [], ◌∷◌, ◌++◌, Option, Some, None, refl, length, map, take, arith, ltb-true, lt-ltb, le-ltb}
+use Rattle.std.proofs.Common.{◌≡◌, ◌∙◌, sym, ap, subst, ℕ, zero, suc, ◌+◌, ◌-◌, ◌<◌, ◌≤◌, nat_lt, ◌||◌, if◌then◌else◌, Bool, true, false, List, [], ◌∷◌, ◌++◌, Option, Some, None, refl, length, map, take, arith, ltb-true, lt-ltb, le-ltb}
 use Rattle.std.specs.List.{range_with_len}
 use Rattle.std.specs.Option.{option_map_or}
+use Rattle.std.proofs.lemmas.Bool.{and_parts}
 use Rattle.std.proofs.lemmas.List.{length-map}
 use Rattle.std.proofs.lemmas.List.FromFn.{length-range_with_len}
 use Rattle.kpn_model.specs.declared.token.Token.{Token}
@@ -18,7 +19,7 @@ use Rattle.kpn_rounds.specs.Rounds.{number_of, token_at, latest, three_of, packe
 use Rattle.kpn_streams.specs.Fed.{nothing, put_first, WritesFrom}
 use Rattle.kpn_streams.specs.Filters.{scanned}
 use Rattle.kpn_streams.specs.Rounds.{side_by_side, columns, RoundsScan}
-use Rattle.kpn_streams.proofs.Fed.{chosen, chosen_else, waits, reads, writes}
+use Rattle.kpn_streams.proofs.Fed.{chosen, chosen_else, length-put_first, waits, reads, writes}
 
 -- there are at most three ports
 few_ports : (ports : List (Option Sort)) → count ports ≤ 3
@@ -67,11 +68,6 @@ packs_outputs false true kept (x ∷ y ∷ []) none few room = (refl, refl, refl
 packs_outputs false false kept (x ∷ y ∷ []) none few room = let wide = room (omega arith) in cc
 packs_outputs false wide kept (x ∷ y ∷ z ∷ xs) none few room = absurd (omega arith)
 
-both_true : (a b : Bool) → (a && b) ≡ true → (a ≡ true) × (b ≡ true)
-both_true true true e = (refl, refl)
-both_true true false e = cc
-both_true false b e = cc
-
 either_true : (a b : Bool) → b ≡ true → (a || b) ≡ true
 either_true true b e = refl
 either_true false b e = e
@@ -80,11 +76,6 @@ either_true false b e = e
 abbrev put_from : (ℕ → ℕ → Token) → ℕ → List ℕ → List (List Token) → List (List Token)
 put_from token k [] outs = outs
 put_from token k (w ∷ ws) outs = put_first (token k w) k (put_from token (suc k) ws outs)
-
-length-put_first : (t : Token) (k : ℕ) (ls : List (List Token)) → length (put_first t k ls) ≡ length ls
-length-put_first t k [] = refl
-length-put_first t zero (l ∷ ls) = refl
-length-put_first t (suc k) (l ∷ ls) = ap (λ n. suc n) (length-put_first t k ls)
 
 length-put_from : (token : ℕ → ℕ → Token) (k : ℕ) (ws : List ℕ) (outs : List (List Token)) → length (put_from token k ws outs) ≡ length outs
 length-put_from token k [] outs = refl
@@ -125,7 +116,7 @@ length-columns_by token n made = length-map (range_with_len 0 n) (λ k. map (λ 
 module _ (s : Signature) where
   narrow_ports : is_narrow s ≡ true → (count s.ins < 2) × (count s.outs < 2)
   narrow_ports e =
-      let both = both_true (nat_lt (count s.ins) 2) (nat_lt (count s.outs) 2) e in
+      let both = and_parts (nat_lt (count s.ins) 2) (nat_lt (count s.outs) 2) e in
       (ltb-true (count s.ins) 2 both.0, ltb-true (count s.outs) 2 both.1)
 
   wide_ins : 2 < count s.ins → is_wide s ≡ true

@@ -50,7 +50,7 @@ module _ (kinds : Family) (net : Network) where
   puts_elsewhere U p c none (Put b t ∷ ds) s before g =
       let r = alone_put kinds net U p before b t g.0.act g.2 in
       let apart : b ≡ c → ⊥ = λ (e : b ≡ c). none r.0 (r.2 ∙ ap (λ x. Some x) e) in
-      ap (λ x. if x then t ∷ puts ds c else puts ds c) (ne_eqb b c apart) ∙ puts_elsewhere U p c none ds (after_answer g.0 (Put b t)) (before ++ Put b t ∷ []) g.3
+      ap (λ x. (if x then t ∷ [] else []) ++ puts ds c) (ne_eqb b c apart) ∙ puts_elsewhere U p c none ds (after_answer g.0 (Put b t)) (before ++ Put b t ∷ []) g.3
 
   -- what c's writer alone puts on a channel that isn't the first at its output
   puts_unless_first :

@@ -22,6 +22,8 @@ use Rattle.kpn_laws.proofs.Sequences.{begins_get, get_at, goes_on_with}
 use Rattle.kpn_laws.proofs.Alone.{alone_took, alone_put}
 use Rattle.kpn_streams.specs.Fed.{nothing, put_first, after_read, after_act, written_in}
 use Rattle.kpn_streams.specs.Solving.{BeginsAt, EndsAt, FedIsAlone, FedIsAll}
+use Rattle.kpn_streams.proofs.Fed.{length-put_first}
+use Rattle.kpn_streams.proofs.SolvingPorts.{some_there}
 
 -- nothing is on any output
 nothing_get : (n k : ℕ) → get_or (nothing n) k [] ≡ []
@@ -29,13 +31,7 @@ nothing_get zero k = refl
 nothing_get (suc n) zero = refl
 nothing_get (suc n) (suc k) = nothing_get n k
 
--- a token more leaves as many lists
-put_first-length : (t : Token) (k : ℕ) (ls : List (List Token)) → length (put_first t k ls) ≡ length ls
-put_first-length t k [] = refl
-put_first-length t zero (l ∷ ls) = refl
-put_first-length t (suc k) (l ∷ ls) = ap suc (put_first-length t k ls)
-
--- it comes before the tokens of its output
+-- a token more comes before the tokens of its output
 put_first_same : (t : Token) (k : ℕ) (ls : List (List Token)) → k < length ls → get_or (put_first t k ls) k [] ≡ t ∷ get_or ls k []
 put_first_same t k [] h = absurd (omega arith)
 put_first_same t zero (l ∷ ls) h = refl
@@ -62,7 +58,7 @@ after_act-length go outputs long next ins (Read j) = of_read (get_or ins j [])
 after_act-length go outputs long next ins (Write j t) = of_write (nat_lt j outputs)
   where
     of_write : (b : Bool) → length (if b then put_first t j (go (Live next None) ins) else nothing outputs) ≡ outputs
-    of_write true = put_first-length t j (go (Live next None) ins) ∙ long (Live next None) ins
+    of_write true = length-put_first t j (go (Live next None) ins) ∙ long (Live next None) ins
     of_write false = length-replicate outputs []
 
 module _ (kinds : Family) (net : Network) (U : Streams) (p : ℕ) where
@@ -110,12 +106,12 @@ module _ (kinds : Family) (net : Network) (U : Streams) (p : ℕ) where
       (λ (e : k ≡ j).
       let cb : c ≡ b = same_Some c b (sym at ∙ ap (λ x. out_of net p x) (sym e) ∙ at') in
       inl (
-        ap (λ x. if x then t ∷ puts ds b else puts ds b) (eq-eqb c b cb),
+        ap (λ x. (if x then t ∷ [] else []) ++ puts ds b) (eq-eqb c b cb),
         ap (λ x. get_or (put_first t j ls) x []) e ∙ put_first_same t j ls within ∙ ap (λ x. t ∷ get_or ls x []) (sym e),
       ))
       (λ (ne : k ≡ j → ⊥).
       let apart : c ≡ b → ⊥ = λ (e : c ≡ b). ne (sym (out_of-out net p k b at') ∙ ap (λ x. (channel_of net x).out) (sym e) ∙ out_of-out net p j c at) in
-      inr (ap (λ x. if x then t ∷ puts ds b else puts ds b) (ne_eqb c b apart), put_first_other t j k ls ne))
+      inr (ap (λ x. (if x then t ∷ [] else []) ++ puts ds b) (ne_eqb c b apart), put_first_other t j k ls ne))
       (cases_eq k j)
 
   -- the streams begin with what was taken, and then what is left
@@ -260,16 +256,11 @@ module _ (kinds : Family) (net : Network) (U : Streams) (p : ℕ) where
   begins_live : p < length net.processes → status (start kinds net) p ≡ Live (kinds.start (card_of net p)) None
   begins_live within = get_or-map (λ (x : Process). Live (kinds.start x.card) None) net.processes p no_process Done within
 
--- an option that has something
-some_of : (o : Option ℕ) → is_some o ≡ true → (c : ℕ) × (o ≡ Some c)
-some_of None h = absurd cc
-some_of (Some c) h = (c, refl)
-
 -- what a process writes that is fed, it writes alone
 pub fed_is_alone : (kinds : Family) → FedIsAlone kinds
 fed_is_alone kinds net U p ins outs within ports writes begins =
     let s = Live (kinds.start (card_of net p)) None in
-    let has : (k : ℕ) → k < length outs → (c : ℕ) × (out_of net p k ≡ Some c) = λ k h. some_of (out_of net p k) ((ports k).1 h) in
+    let has : (k : ℕ) → k < length outs → (c : ℕ) × (out_of net p k ≡ Some c) = λ k h. some_there (out_of net p k) ((ports k).1 h) in
     let left : (k c : ℕ) → in_of net p k ≡ Some c → BeginsWith (U c) (get_or ins k []) = λ k c at. subst (λ o. BeginsAt U o (get_or ins k [])) at (begins k) in
     let none : (k : ℕ) → in_of net p k ≡ None → get_or ins k [] ≡ [] = λ k at. subst (λ o. BeginsAt U o (get_or ins k [])) at (begins k) in
     let r = alone_in kinds net U p (length outs) has writes.enough s [] ins left none in (

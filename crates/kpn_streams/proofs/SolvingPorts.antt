@@ -30,7 +30,7 @@ none_of None h = refl
 none_of (Some c) h = absurd (h c refl)
 
 -- an option that has something
-some_there : (o : Option ℕ) → is_some o ≡ true → (c : ℕ) × (o ≡ Some c)
+pub some_there : (o : Option ℕ) → is_some o ≡ true → (c : ℕ) × (o ≡ Some c)
 some_there None h = absurd cc
 some_there (Some c) h = (c, refl)
 

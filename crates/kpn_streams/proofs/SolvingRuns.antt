@@ -1,5 +1,5 @@
 -- The streams of runs, where approximations or the least solution are known.
-use Rattle.std.proofs.Common.{◌≡◌, ◌≤◌, ◌<◌, ◌+◌, ⊎_elim, List, [], ◌∷◌, ◌++◌, ℕ, zero, suc, length, refl, sym, ap, ◌∙◌, subst, arith, append-nil, Option, Some, None, slice_get}
+use Rattle.std.proofs.Common.{◌≡◌, ◌≤◌, ◌<◌, ◌+◌, ⊎_elim, List, [], ◌∷◌, ◌++◌, ℕ, zero, suc, length, refl, sym, ap, ◌∙◌, subst, arith, append-nil, slice_get}
 use Rattle.std.proofs.lemmas.Bool.{cases_lt, cases_eq}
 use Rattle.std.proofs.lemmas.Option.{same_Some}
 use Rattle.kpn_model.specs.declared.token.Token.{Token}
@@ -22,7 +22,7 @@ use Rattle.kpn_laws.proofs.KeptByRuns.{kept_run}
 use Rattle.kpn_laws.proofs.Comparable.{at_deeds_push}
 use Rattle.kpn_laws.proofs.Resized.{fresh_resized, run_resized}
 use Rattle.kpn_laws.proofs.Solutions.{written_stream, streams_below, end_is_least_from_any}
-use Rattle.kpn_laws.proofs.Limits.{one_least}
+use Rattle.kpn_laws.proofs.Limits.{one_least, same_option}
 use Rattle.kpn_streams.specs.Solving.{as_streams, HasEquation, Approximates, HasStreams, RunIsApproximated, FixedIsComputed, SolutionSolves, SolvedIsComputed, OrderedIsComputed}
 use Rattle.kpn_streams.proofs.SolvingEquations.{equation_written, equation_bounds, written_past, begins_as_streams}
 use Rattle.kpn_streams.proofs.SolvingLimits.{approximations_are_below, does_later, solved_is_solution}
@@ -35,12 +35,6 @@ same_tokens (x ∷ xs) [] h = let e = h 0 in absurd cc
 same_tokens (x ∷ xs) (y ∷ ys) h =
     let first : x ≡ y = same_Some x y (h 0) in
     ap (λ l. x ∷ l) (same_tokens xs ys (λ n. h (suc n))) ∙ ap (λ t. t ∷ ys) first
-
--- two options that have the same, if they have something
-same_option : (a b : Option Token) → ((t : Token) → a ≡ Some t → b ≡ Some t) → ((t : Token) → b ≡ Some t → a ≡ Some t) → a ≡ b
-same_option None None f g = refl
-same_option None (Some t) f g = g t refl
-same_option (Some t) b f g = sym (f t refl)
 
 -- the tokens of a solution solve the equations
 pub solution_solves : (kinds : Family) → SolutionSolves kinds

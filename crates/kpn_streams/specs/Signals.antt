@@ -145,7 +145,7 @@ DivWrites = Zips Div quotient
 abbrev pub ModWrites : Type 0
 ModWrites = Zips Mod remainder
 
--- the same for what it tells of each two
+-- it writes what it tells of each two
 abbrev pub Tells : Signal → (ℕ → ℕ → Bool) → Type 0
 Tells kind f =
     (others xs ys : List ℕ) → SignalWrites kind others (words xs ∷ words ys ∷ []) (flags (pairwise f xs ys) ∷ [])

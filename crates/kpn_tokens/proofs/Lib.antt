@@ -16,3 +16,4 @@ pub mod TablesBack
 pub mod Chunks
 pub mod RowsOn
 pub mod Sorted
+pub mod Lefts

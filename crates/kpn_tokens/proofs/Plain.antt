@@ -1,5 +1,6 @@
 -- Texts of digits, small letters, `-`, `.` and `/`, in which nothing else than a token can be read.
-use Rattle.std.proofs.Common.{◌≡◌, ◌≤◌, ◌+◌, ◌++◌, ℕ, zero, suc, Bool, true, false, inl, inr, List, [], ◌∷◌, length, take, drop, refl, ap, arith}
+use Rattle.std.proofs.Common.{◌≡◌, ◌≤◌, ◌+◌, ◌++◌, ℕ, zero, suc, Bool, true, false, inl, inr, List, [], ◌∷◌, length, drop, refl, arith}
+use Rattle.std.proofs.Math.Seq.{take-append_seam}
 use Rattle.std.proofs.lemmas.Bool.{agree_below, agree_below_at, and_parts, cases_Bool, leb-true, ne_eqb, or_cases}
 use Rattle.std.proofs.lemmas.Str.{IsUtf8-from_ascii, chars-IsAscii, encodes-IsAscii, is_utf8-from_IsUtf8}
 use Rattle.std.specs.Char.{is_whitespace}
@@ -44,11 +45,7 @@ module _ (test : ℕ → Bool) where
   ]
 
   pub before_after : (text : List ℕ) (b : ℕ) (rest : List ℕ) → list_any test text ≡ false → test b ≡ true → before_first test (text ++ b ∷ rest) ≡ text
-  before_after text b rest h e = rw (place_after text b rest h e) (take_all_of text (b ∷ rest))
-    where
-      take_all_of : (xs ys : List ℕ) → take (length xs) (xs ++ ys) ≡ xs
-      take_all_of [] ys = refl
-      take_all_of (x ∷ xs) ys = ap (λ l. x ∷ l) (take_all_of xs ys)
+  before_after text b rest h e = rw (place_after text b rest h e) (take-append_seam text (b ∷ rest))
 
   pub after_after : (text : List ℕ) (b : ℕ) (rest : List ℕ) → list_any test text ≡ false → test b ≡ true → after_first test (text ++ b ∷ rest) ≡ rest
   after_after text b rest h e = rw (place_after text b rest h e) (drop_all_of text)

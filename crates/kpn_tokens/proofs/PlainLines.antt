@@ -90,7 +90,7 @@ module _ (text : List ℕ) (count number : ℕ) (h : IsNumberLine text count num
       let line = plain_line text (take count text) (drop (count + 1) text) (digits_value 10 (take count text)) split (figures_plain (take count text) (figures (take count text) h.digits)) h.digits.0 (plus (take count text) h.digits fits) in
       subst (λ n. IsWordLine text n number) size (subst (λ w. IsWordLine text (length (take count text)) w) (sym h.value) line)
 
-  -- the same after a minus
+  -- after a minus the number's opposite is read
   pub number_line_below : (above : List ℕ) (word : ℕ) → above ≡ 45 ∷ text → word ≡ (2 ^ 64 - number) % 2 ^ 64 → IsWordLine above (count + 1) word
   number_line_below above word minus_first e =
       let fits : digits_value 10 (take count text) ≤ 2 ^ 63 = omega (arith, small) in

@@ -1,6 +1,7 @@
 -- A sample says the word that was written in it.
-use Rattle.std.proofs.Common.{◌≡◌, ◌<◌, ◌≤◌, ◌+◌, ◌-◌, ◌%◌, ◌^◌, ◌⊎◌, ℕ, true, false, inl, inr, List, [], ◌∷◌, ◌++◌, Ok, Some, append_assoc, drop, length, length-append, take, refl, ap, arith}
+use Rattle.std.proofs.Common.{◌≡◌, ◌<◌, ◌≤◌, ◌+◌, ◌-◌, ◌%◌, ◌^◌, ◌⊎◌, ℕ, true, false, inl, inr, List, [], ◌∷◌, ◌++◌, Ok, Some, append_assoc, drop, length, length-append, refl, arith}
 use Rattle.std.proofs.Math.Nat.{mod-eq_of_lt}
+use Rattle.std.proofs.Math.Seq.{take-append_seam}
 use Rattle.std.proofs.lemmas.Bool.{le-ltb, leb-true, lt-ltb, ltb-true, or_cases}
 use Rattle.std.proofs.lemmas.List.{length-replicate}
 use Rattle.std.specs.Prelude.{◌||◌, nat_le, nat_lt, replicate}
@@ -105,10 +106,6 @@ token_is Flags (Word n) h = absurd h
 token_is Flags (Flag true) h = refl
 token_is Flags (Flag false) h = refl
 
-pub take_first : (xs ys : List ℕ) → take (length xs) (xs ++ ys) ≡ xs
-take_first [] ys = refl
-take_first (x ∷ xs) ys = ap (λ l. x ∷ l) (take_first xs ys)
-
 pub drop_first : (xs ys : List ℕ) → drop (length xs) (xs ++ ys) ≡ ys
 drop_first [] ys = refl
 drop_first (x ∷ xs) ys = drop_first xs ys
@@ -150,6 +147,6 @@ module _ (frame : Frame) (sort : Sort) (token : Token) (of : IsOf sort token) (f
   pub frame_back : IsBack (Frames frame) sort token
   frame_back = record {
     some = omega (arith, frame_length, some_bytes frame.sample.width);
-    says = λ more. rw (rw frame_length at (take_first (frame_text frame token) more)) frame_back_said;
+    says = λ more. rw (rw frame_length at (take-append_seam (frame_text frame token) more)) frame_back_said;
     leaves = λ more. rw frame_length at (drop_first (frame_text frame token) more);
   }

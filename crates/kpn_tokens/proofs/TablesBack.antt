@@ -1,5 +1,6 @@
 -- What is written of columns is read back in each of them.
 use Rattle.std.proofs.Common.{◌≡◌, ◌<◌, ◌≤◌, ◌+◌, ◌-◌, ◌*◌, ◌∙◌, ◌++◌, ℕ, zero, suc, true, false, List, [], ◌∷◌, Ok, Some, None, drop, length, length-append, map, get_or, refl, sym, ap, subst, append_assoc, arith}
+use Rattle.std.proofs.Math.Seq.{take-append_seam}
 use Rattle.std.proofs.lemmas.Bool.{le-ltb}
 use Rattle.std.proofs.lemmas.List.{length-map}
 use Rattle.std.specs.List.{AllByRecursion, flat_map}
@@ -27,7 +28,7 @@ use Rattle.kpn_tokens.proofs.Fields.{filled_field}
 use Rattle.kpn_tokens.proofs.LinesBack.{IsPlainCell, found, one_line_of, row_is}
 use Rattle.kpn_tokens.proofs.Plain.{after_after, before_after, plain_trim, plain_utf8}
 use Rattle.kpn_tokens.proofs.RecordsBack.{plain_text}
-use Rattle.kpn_tokens.proofs.SamplesBack.{bytes_length, drop_first, sample_back, some_bytes, take_first}
+use Rattle.kpn_tokens.proofs.SamplesBack.{bytes_length, drop_first, sample_back, some_bytes}
 
 -- a cell with a token of some sort
 pub record IsFull (cell : Cell) : Type 0 where
@@ -135,7 +136,7 @@ module _ (sample : Sample) where
     frame_back : (d : Cell) → fits (Frames frame) token ≡ true → place < length cells → get_or cells place d ≡ record { decimals = decimals; token = Some token } → IsRowBack (Samples sample) cells (Frames frame) sort token
     frame_back d fit within here = record {
       some = omega (arith, whole within, some_bytes sample.width);
-      says = λ more. rw (rw (whole within) at (take_first (flat_map one cells) more)) (frame_said_back d fit within here);
+      says = λ more. rw (rw (whole within) at (take-append_seam (flat_map one cells) more)) (frame_said_back d fit within here);
       leaves = λ more. rw (whole within) at (drop_first (flat_map one cells) more);
     }
 

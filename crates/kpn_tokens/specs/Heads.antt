@@ -149,7 +149,7 @@ pub record IsWavHead (bytes : List ℕ) (head : WavHead) : Type 0 where
 abbrev pub HasNoFormatBefore : List ℕ → ℕ → Type 0
 HasNoFormatBefore bytes samples = (format : ℕ) → FormatAt bytes format → samples ≤ format
 
--- why there is none: the file does not begin like this; another format, or none before the samples; these do
+-- why there is no head: the file does not begin as a WAV file; another format, or none before the samples; these do
 -- not begin, and no more bytes come; or they begin too late
 abbrev pub IsWavFault : List ℕ → Bool → WavFault → Type 0
 IsWavFault bytes last NotWav = is_wav bytes ≡ false

@@ -11,7 +11,7 @@ use std::fmt::Write;
 
 /// A network, and where a run left its processes.
 #[derive(Drop)]
-struct Left<'a, K: Kinds> {
+struct LeftNet<'a, K: Kinds> {
     net: &'a Net<K>,
     places: &'a [Place],
 }
@@ -49,7 +49,7 @@ pub fn push_verdict<K: Kinds>(
     match verdict {
         Verdict::Finished => out.push_str("finished"),
         Verdict::RanDry => out.push_str("ran dry"),
-        Verdict::Cycle(process) => push_cycle(out, &Left { net, places }, process),
+        Verdict::Cycle(process) => push_cycle(out, &LeftNet { net, places }, process),
         Verdict::Cut => out.push_str("cut"),
         Verdict::Full => out.push_str("full"),
         Verdict::Memory => out.push_str("memory"),
@@ -58,7 +58,7 @@ pub fn push_verdict<K: Kinds>(
 
 fn push_cycle<K: Kinds>(
     out: &mut String,
-    left: &Left<'_, K>,
+    left: &LeftNet<'_, K>,
     process: usize,
 ) -> Result<(), AllocError>
     ensures { OnOk result (AppendsWords left.now.net.now left.now.places.now out.old out.new (Verdict.Cycle process)) }
@@ -70,7 +70,7 @@ fn push_cycle<K: Kinds>(
 /// The cycle on which a process waits for `goal`, of at most `most` processes.
 fn push_circle<K: Kinds>(
     out: &mut String,
-    left: &Left<'_, K>,
+    left: &LeftNet<'_, K>,
     most: usize,
     goal: usize,
     process: usize,
@@ -92,7 +92,7 @@ fn push_circle<K: Kinds>(
 
 fn push_wait<K: Kinds>(
     out: &mut String,
-    left: &Left<'_, K>,
+    left: &LeftNet<'_, K>,
     process: usize,
     waiting: usize,
 ) -> Result<(), AllocError>

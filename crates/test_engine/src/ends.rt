@@ -3,11 +3,11 @@ use crate::checks::same;
 use crate::entries::{GREW, PUT_1};
 use crate::machines::{CardMachine, finish_alone, machine_of};
 use crate::networks::{SINK_OF_FOUR, SINK_OF_ONE, SINK_OF_THREE};
-use kpn_body::Standard;
 use kpn_machine::{Chronicle, End, Entry, Standing};
 use kpn_net::Act::Read;
 use kpn_net::{Answer, Place};
 use kpn_report::places_of;
+use kpn_standard::Standard;
 use std::alloc::Global;
 use std::process::Abort;
 

@@ -1,4 +1,4 @@
-//! Tests of kpn_standard, kpn_body, kpn_compute and kpn_signals.
+//! Tests of kpn_body, kpn_compute, kpn_standard and kpn_signals.
 mod computed;
 mod signal_tables;
 mod signals;

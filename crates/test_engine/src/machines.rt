@@ -4,10 +4,11 @@
 ghost use Rattle.kpn_machine.specs.MachineView.{IsFresh};
 
 use crate::checks::same;
-use crate::networks::{Parts, parts_of};
-use kpn_body::{Finished, Standard, Task};
+use crate::networks::{NetAndBodies, parts_of};
+use kpn_body::{Finished, Task};
 use kpn_compute::CardBody;
 use kpn_machine::{Machine, OpenFault, Outcome};
+use kpn_standard::Standard;
 use std::alloc::Global;
 use std::process::Abort;
 
@@ -21,12 +22,12 @@ pub(crate) fn machine_of<R: Abort>(rt: &R, alloc: Global, text: &str) -> CardMac
     opened(rt, alloc, fresh_parts(rt, alloc, text))
 }
 
-pub(crate) fn fresh_parts<R: Abort>(rt: &R, alloc: Global, text: &str) -> Parts {
+pub(crate) fn fresh_parts<R: Abort>(rt: &R, alloc: Global, text: &str) -> NetAndBodies {
     parts_of(rt, alloc, text).expect(rt, "no memory for the parts")
 }
 
 /// Opens a machine; this may fail only for lack of memory.
-pub(crate) fn opened<R: Abort>(rt: &R, alloc: Global, parts: Parts) -> CardMachine {
+pub(crate) fn opened<R: Abort>(rt: &R, alloc: Global, parts: NetAndBodies) -> CardMachine {
     match Machine::open(alloc, parts.net, parts.bodies) {
         Ok(machine) => machine,
         Err(refused) => {

@@ -1,8 +1,8 @@
 //! The tests' networks: process 0 counts from 1 to 3 into channel 0 of capacity 1, and process 1 is a sink.
 use crate::checks::same;
-use kpn_body::Standard;
 use kpn_compute::{CardBody, bodies_of};
 use kpn_net::{Card, Check, Net, NetFault, read_sketch};
+use kpn_standard::Standard;
 use std::alloc::{AllocError, Global};
 use std::process::Abort;
 
@@ -55,16 +55,20 @@ pub(crate) const SINK_OF_FOUR: &str = description!(reads 4, budget 10000);
 pub(crate) const BUDGET_OF_ONE: &str = description!(reads 3, budget 1);
 
 #[derive(Drop)]
-pub(crate) struct Parts {
+pub(crate) struct NetAndBodies {
     pub(crate) net: Net<Standard>,
     pub(crate) bodies: Vec<CardBody<Standard>>,
 }
 
 /// Returns the network of a description, with its bodies. Errors: out of memory.
-pub(crate) fn parts_of<R: Abort>(rt: &R, alloc: Global, text: &str) -> Result<Parts, AllocError> {
+pub(crate) fn parts_of<R: Abort>(
+    rt: &R,
+    alloc: Global,
+    text: &str,
+) -> Result<NetAndBodies, AllocError> {
     let net = net_of(rt, alloc, text)?;
     let bodies = bodies_of(alloc, &net)?;
-    Ok(Parts { net, bodies })
+    Ok(NetAndBodies { net, bodies })
 }
 
 fn net_of<R: Abort>(rt: &R, alloc: Global, text: &str) -> Result<Net<Standard>, AllocError> {

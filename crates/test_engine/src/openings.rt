@@ -1,11 +1,12 @@
 //! What a machine is opened with, and what it returns.
 use crate::checks::same;
 use crate::machines::{CardMachine, assert_fresh, fresh_parts, machine_of, opened};
-use crate::networks::{COUNTER, Parts, SINK, SINK_OF_THREE};
-use kpn_body::{Body, Standard};
+use crate::networks::{COUNTER, NetAndBodies, SINK, SINK_OF_THREE};
+use kpn_body::Body;
 use kpn_compute::CardBody;
 use kpn_machine::{Machine, OpenFault, OpenRefused, Outcome, cards_of};
 use kpn_net::Card;
+use kpn_standard::Standard;
 use std::alloc::Global;
 use std::process::Abort;
 
@@ -16,13 +17,13 @@ fn assert_cards<R: Abort>(rt: &R, bodies: &[CardBody<Standard>], cards: &[Card],
     }
 }
 
-fn taken_apart<R: Abort>(rt: &R, machine: CardMachine) -> Parts {
+fn taken_apart<R: Abort>(rt: &R, machine: CardMachine) -> NetAndBodies {
     assert_fresh(rt, &machine);
     let (net, bodies) = machine.into_parts();
-    Parts { net, bodies }
+    NetAndBodies { net, bodies }
 }
 
-fn assert_parts<R: Abort>(rt: &R, alloc: Global, parts: &Parts) {
+fn assert_parts<R: Abort>(rt: &R, alloc: Global, parts: &NetAndBodies) {
     let cards = cards_of(alloc, &parts.net).expect(rt, "no memory");
     same(rt, "cards", cards.as_slice(), [COUNTER, SINK].as_slice());
     assert_cards(rt, parts.bodies.as_slice(), &[COUNTER, SINK], "fresh");
@@ -71,7 +72,7 @@ pub(crate) fn assert_handed_back<R: Abort>(
     assert_cards(rt, refused.bodies.as_slice(), due.cards, name);
 }
 
-fn open_misfit<R: Abort>(rt: &R, alloc: Global, parts: Parts, due: &Misfit) {
+fn open_misfit<R: Abort>(rt: &R, alloc: Global, parts: NetAndBodies, due: &Misfit) {
     let name = due.name;
     match Machine::open(alloc, parts.net, parts.bodies) {
         Ok(_) => panic!(rt; "opened with bodies: {name}"),

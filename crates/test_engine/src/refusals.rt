@@ -2,7 +2,7 @@
 use crate::checks::same;
 use crate::entries::{PUT_1, PUT_2, SINK_STOPPED, TOOK_1};
 use crate::machines::{CardMachine, CardTask, commit_of, opened, take_none};
-use crate::networks::{COUNTER, Parts, SINK_OF_ONE, parts_of};
+use crate::networks::{COUNTER, NetAndBodies, SINK_OF_ONE, parts_of};
 use crate::openings::{Misfit, assert_handed_back};
 use kpn_machine::Outcome::{Done, Parked};
 use kpn_machine::{Machine, OpenFault};
@@ -13,7 +13,7 @@ use std::test::Fail;
 
 /// The failed request, among those after which a run can continue.
 #[derive(Clone, Copy)]
-enum Refused {
+enum FailedRequest {
     Nothing,
     Opening,
     Growth,
@@ -33,16 +33,20 @@ static NO_MEMORY: Misfit = Misfit {
 };
 
 /// Opens a machine; if out of memory, opens it again with the parts returned.
-fn open_again<R: Abort>(rt: &R, alloc: Global, parts: Parts) -> (CardMachine, Refused) {
+fn open_again<R: Abort>(
+    rt: &R,
+    alloc: Global,
+    parts: NetAndBodies,
+) -> (CardMachine, FailedRequest) {
     match Machine::open(alloc, parts.net, parts.bodies) {
-        Ok(machine) => (machine, Refused::Nothing),
+        Ok(machine) => (machine, FailedRequest::Nothing),
         Err(refused) => {
             assert_handed_back(rt, &refused, &NO_MEMORY);
-            let parts = Parts {
+            let parts = NetAndBodies {
                 net: refused.net,
                 bodies: refused.bodies,
             };
-            (opened(rt, alloc, parts), Refused::Opening)
+            (opened(rt, alloc, parts), FailedRequest::Opening)
         }
     }
 }
@@ -77,11 +81,11 @@ fn grow_to_the_end<R: Abort>(
     rt: &R,
     machine: &mut CardMachine,
     tasks: &mut Vec<CardTask>,
-    opening: Refused,
-) -> Refused {
+    opening: FailedRequest,
+) -> FailedRequest {
     if grow(rt, machine, tasks) {
         assert_ended(rt, machine);
-        Refused::Growth
+        FailedRequest::Growth
     } else {
         end_after_growth(rt, machine, tasks);
         opening
@@ -91,16 +95,16 @@ fn grow_to_the_end<R: Abort>(
 fn growing_run<R: Abort>(
     rt: &R,
     alloc: Global,
-    parts: Parts,
+    parts: NetAndBodies,
     tasks: &mut Vec<CardTask>,
-) -> Refused {
+) -> FailedRequest {
     let (mut machine, opening) = open_again(rt, alloc, parts);
     let refused = grow_to_the_end(rt, &mut machine, tasks, opening);
     drop(machine);
     refused
 }
 
-fn run_with_room<R: Abort>(rt: &R, alloc: Global) -> Result<Refused, AllocError> {
+fn run_with_room<R: Abort>(rt: &R, alloc: Global) -> Result<FailedRequest, AllocError> {
     let mut tasks = Vec::with_capacity(alloc, 2)?;
     let parts = parts_of(rt, alloc, SINK_OF_ONE)?;
     Ok(growing_run(rt, alloc, parts, &mut tasks))
@@ -110,9 +114,9 @@ fn run_with_room<R: Abort>(rt: &R, alloc: Global) -> Result<Refused, AllocError>
 #[test]
 fn a_refused_request_is_told(rt: HostRuntime) -> Result<(), Fail> {
     let word = match run_with_room(&rt, rt.alloc()) {
-        Ok(Refused::Nothing) => "nothing",
-        Ok(Refused::Opening) => "opening",
-        Ok(Refused::Growth) => "growth",
+        Ok(FailedRequest::Nothing) => "nothing",
+        Ok(FailedRequest::Opening) => "opening",
+        Ok(FailedRequest::Growth) => "growth",
         Err(AllocError) => "elsewhere",
     };
     println!(rt; "refused: {word}")?;

@@ -14,7 +14,7 @@ use std::alloc::Global;
 use std::process::Abort;
 
 #[derive(Clone, Copy, Debug, PartialEq, Eq)]
-struct Counts {
+struct MachineCounts {
     ready: usize,
     out: usize,
     commits: u64,
@@ -24,12 +24,12 @@ struct Counts {
 #[derive(Clone, Copy)]
 struct Stand {
     standings: [Standing; 2],
-    counts: Counts,
+    counts: MachineCounts,
 }
 
 const FRESH: Stand = Stand {
     standings: [Ready, Ready],
-    counts: Counts {
+    counts: MachineCounts {
         ready: 2,
         out: 0,
         commits: 0,
@@ -39,7 +39,7 @@ const FRESH: Stand = Stand {
 
 const COUNTER_OUT: Stand = Stand {
     standings: [Out, Ready],
-    counts: Counts {
+    counts: MachineCounts {
         ready: 1,
         out: 1,
         commits: 0,
@@ -49,7 +49,7 @@ const COUNTER_OUT: Stand = Stand {
 
 const SINK_OUT: Stand = Stand {
     standings: [Ready, Out],
-    counts: Counts {
+    counts: MachineCounts {
         ready: 1,
         out: 1,
         commits: 0,
@@ -59,7 +59,7 @@ const SINK_OUT: Stand = Stand {
 
 const BOTH_OUT: Stand = Stand {
     standings: [Out, Out],
-    counts: Counts {
+    counts: MachineCounts {
         ready: 0,
         out: 2,
         commits: 0,
@@ -76,7 +76,7 @@ const SINK_WAITS: Stand = Stand {
             act: Read(0),
         }),
     ],
-    counts: Counts {
+    counts: MachineCounts {
         ready: 0,
         out: 1,
         commits: 1,
@@ -86,7 +86,7 @@ const SINK_WAITS: Stand = Stand {
 
 const FIRST_TOKEN_TAKEN: Stand = Stand {
     standings: [Ready, Ready],
-    counts: Counts {
+    counts: MachineCounts {
         ready: 2,
         out: 0,
         commits: 2,
@@ -96,7 +96,7 @@ const FIRST_TOKEN_TAKEN: Stand = Stand {
 
 const OVER: Stand = Stand {
     standings: [Stopped, Stopped],
-    counts: Counts {
+    counts: MachineCounts {
         ready: 0,
         out: 0,
         commits: 8,
@@ -104,8 +104,8 @@ const OVER: Stand = Stand {
     },
 };
 
-fn counts_of(machine: &CardMachine) -> Counts {
-    Counts {
+fn counts_of(machine: &CardMachine) -> MachineCounts {
+    MachineCounts {
         ready: machine.ready(),
         out: machine.out(),
         commits: machine.commits(),
@@ -164,7 +164,7 @@ fn a_machine_tells_where_its_processes_stand(rt: HostRuntime) {
 /// The budget is spent while the sink is out.
 const ONE_LATE: Stand = Stand {
     standings: [Ready, Out],
-    counts: Counts {
+    counts: MachineCounts {
         ready: 1,
         out: 1,
         commits: 1,
@@ -174,7 +174,7 @@ const ONE_LATE: Stand = Stand {
 
 const LAID_BACK: Stand = Stand {
     standings: [Ready, Ready],
-    counts: Counts {
+    counts: MachineCounts {
         ready: 2,
         out: 0,
         commits: 2,

@@ -9,19 +9,19 @@ use std::process::Abort;
 
 /// Where a run left the processes, and its end.
 #[derive(Clone, Copy)]
-struct Left<'a> {
+struct LeftPlaces<'a> {
     places: &'a [Place],
     end: End,
 }
 
-fn deadlock(places: &[Place]) -> Left<'_> {
-    Left {
+fn deadlock(places: &[Place]) -> LeftPlaces<'_> {
+    LeftPlaces {
         places,
         end: End::Deadlock,
     }
 }
 
-fn judge<R: Abort>(rt: &R, alloc: Global, net: &Net<Standard>, left: &Left<'_>, due: &str) {
+fn judge<R: Abort>(rt: &R, alloc: Global, net: &Net<Standard>, left: &LeftPlaces<'_>, due: &str) {
     let verdict = verdict_of(net, left.places, left.end);
     let line = verdict_text(alloc, net, left.places, verdict).expect(rt, "no memory");
     same(rt, "line", line.as_str(), due);
@@ -89,7 +89,7 @@ static ENDS: [(End, &str); 4] = [
 fn each_other_end_has_a_verdict(rt: HostRuntime) {
     let net = net_of(&rt, rt.alloc(), COUNTER);
     for (end, due) in &ENDS {
-        let left = Left {
+        let left = LeftPlaces {
             places: &[Place::Stopped; 2],
             end: *end,
         };

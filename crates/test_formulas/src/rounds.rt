@@ -9,27 +9,27 @@ use std::process::Abort;
 
 /// An act of the formula: it read an input or wrote an output, by the channel's number.
 #[derive(Clone, Copy, Debug, PartialEq, Eq)]
-enum Act {
+enum RoundAct {
     Reads(usize),
     Writes(usize),
 }
 
 /// Returns the act of an entry; `None` if it isn't one of process 0.
-fn act_of(entry: Entry) -> Option<Act> {
+fn act_of(entry: Entry) -> Option<RoundAct> {
     match entry {
         Entry::Did {
             process: 0,
             deed: Deed::Took { channel, .. },
-        } => Some(Act::Reads(channel)),
+        } => Some(RoundAct::Reads(channel)),
         Entry::Did {
             process: 0,
             deed: Deed::Put { channel, .. },
-        } => Some(Act::Writes(channel)),
+        } => Some(RoundAct::Writes(channel)),
         _ => None,
     }
 }
 
-fn compare_acts<R: Abort>(rt: &R, alloc: Global, row: &Row, due: &[Act]) {
+fn compare_acts<R: Abort>(rt: &R, alloc: Global, row: &Row, due: &[RoundAct]) {
     let card = card_of_formula(rt, alloc, row.text);
     let machine = ran(rt, alloc, card, row.ins, row.outs);
     let mut acts = Vec::new(alloc);
@@ -46,14 +46,19 @@ const TWO: Stream = Words(&[1, 2]);
 const ONE: Stream = Words(&[3]);
 
 /// Formulas, and their acts. Channels are numbered from 0 on: first those of the inputs, then those of the outputs.
-static ROWS: [(Row, &[Act]); 6] = [
+static ROWS: [(Row, &[RoundAct]); 6] = [
     (
         Row {
             text: "out = in",
             ins: &[TWO],
             outs: &[ONE],
         },
-        &[Act::Reads(0), Act::Writes(1), Act::Reads(0), Act::Writes(1)],
+        &[
+            RoundAct::Reads(0),
+            RoundAct::Writes(1),
+            RoundAct::Reads(0),
+            RoundAct::Writes(1),
+        ],
     ),
     (
         Row {
@@ -62,14 +67,14 @@ static ROWS: [(Row, &[Act]); 6] = [
             outs: &[ONE, ONE],
         },
         &[
-            Act::Reads(0),
-            Act::Reads(1),
-            Act::Writes(2),
-            Act::Writes(3),
-            Act::Reads(0),
-            Act::Reads(1),
-            Act::Writes(2),
-            Act::Writes(3),
+            RoundAct::Reads(0),
+            RoundAct::Reads(1),
+            RoundAct::Writes(2),
+            RoundAct::Writes(3),
+            RoundAct::Reads(0),
+            RoundAct::Reads(1),
+            RoundAct::Writes(2),
+            RoundAct::Writes(3),
         ],
     ),
     (
@@ -79,11 +84,11 @@ static ROWS: [(Row, &[Act]); 6] = [
             outs: &[ONE],
         },
         &[
-            Act::Reads(0),
-            Act::Reads(1),
-            Act::Reads(2),
-            Act::Writes(3),
-            Act::Reads(0),
+            RoundAct::Reads(0),
+            RoundAct::Reads(1),
+            RoundAct::Reads(2),
+            RoundAct::Writes(3),
+            RoundAct::Reads(0),
         ],
     ),
     (
@@ -93,10 +98,10 @@ static ROWS: [(Row, &[Act]); 6] = [
             outs: &[ONE, ONE, ONE],
         },
         &[
-            Act::Reads(0),
-            Act::Writes(1),
-            Act::Writes(2),
-            Act::Writes(3),
+            RoundAct::Reads(0),
+            RoundAct::Writes(1),
+            RoundAct::Writes(2),
+            RoundAct::Writes(3),
         ],
     ),
     (
@@ -105,7 +110,7 @@ static ROWS: [(Row, &[Act]); 6] = [
             ins: &[TWO],
             outs: &[],
         },
-        &[Act::Reads(0), Act::Reads(0)],
+        &[RoundAct::Reads(0), RoundAct::Reads(0)],
     ),
     (
         Row {
@@ -114,11 +119,11 @@ static ROWS: [(Row, &[Act]); 6] = [
             outs: &[],
         },
         &[
-            Act::Reads(0),
-            Act::Reads(1),
-            Act::Reads(2),
-            Act::Reads(0),
-            Act::Reads(1),
+            RoundAct::Reads(0),
+            RoundAct::Reads(1),
+            RoundAct::Reads(2),
+            RoundAct::Reads(0),
+            RoundAct::Reads(1),
         ],
     ),
 ];

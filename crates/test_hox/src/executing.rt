@@ -40,20 +40,25 @@ struct Memory<'a, R> {
 }
 
 impl<'a, R: AllocGlobal + Abort> Memory<'a, R> {
-    fn note(&mut self, is_said: bool, has_failed: bool, name: &str, bytes: &[u8])
-        ensures { self.new.done.items ≡ self.old.done.items ++ record { is_said = is_said; has_failed = has_failed; name = name.now; bytes = bytes.now } ∷ [] }
+    fn text(&self, text: &str) -> Text
+        ensures { result ≡ text.now }
     {
-        let (rt, alloc) = (self.rt, self.rt.alloc());
-        let name = String::from_str(alloc, name).expect(rt, "no memory");
-        let bytes = Vec::from_slice(alloc, bytes).expect(rt, "no memory");
-        let done = Done {
-            is_said,
-            has_failed,
-            name: Text::new(name),
-            bytes: Listed::new(bytes),
-        };
+        let rt = self.rt;
+        Text::new(String::from_str(rt.alloc(), text).expect(rt, "no memory"))
+    }
+
+    fn bytes(&self, bytes: &[u8]) -> Listed<u8>
+        ensures { result ≡ bytes.now }
+    {
+        let rt = self.rt;
+        Listed::new(Vec::from_slice(rt.alloc(), bytes).expect(rt, "no memory"))
+    }
+
+    fn note(&mut self, done: Done)
+        ensures { self.new.done.items ≡ self.old.done.items ++ done ∷ [] }
+    {
         if self.done.push(done).is_err() {
-            panic!(rt; "no memory");
+            panic!(self.rt; "no memory");
         }
     }
 }
@@ -96,16 +101,28 @@ impl<'a, R: AllocGlobal + Abort> FileSystem for Memory<'a, R> {
     }
 
     fn write(&mut self, name: &str, bytes: &[u8]) -> io::Result<()> {
-        if name == "full" || self.is_full && name == "-" {
-            self.note(false, true, name, bytes);
+        let has_failed = name == "full" || self.is_full && name == "-";
+        let done = Done {
+            is_said: false,
+            has_failed,
+            name: self.text(name),
+            bytes: self.bytes(bytes),
+        };
+        self.note(done);
+        if has_failed {
             return Err(io::ErrorKind::StorageFull.into());
         }
-        self.note(false, false, name, bytes);
         Ok(())
     }
 
     fn say(&mut self, text: &str) -> io::Result<()> {
-        self.note(true, false, "", text.as_bytes());
+        let done = Done {
+            is_said: true,
+            has_failed: false,
+            name: self.text(""),
+            bytes: self.bytes(text.as_bytes()),
+        };
+        self.note(done);
         Ok(())
     }
 }

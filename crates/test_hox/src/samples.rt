@@ -128,7 +128,7 @@ pub(crate) fn asked<R: Abort>(
     }
 }
 
-fn told_of<R: AllocGlobal + Wait + Clock + Threads + Abort + Sync, P: ProgressReceiver>(
+fn run_text<R: AllocGlobal + Wait + Clock + Threads + Abort + Sync, P: ProgressReceiver>(
     rt: &R,
     text: &str,
     request: &Request,
@@ -156,7 +156,7 @@ fn compare_output<R: Abort>(rt: &R, told: &Told, tokens: &[Token]) {
 fn words_of_a_file_go_through(rt: HostRuntime) {
     for workers in 0..=17usize {
         let request = asked(&rt, rt.alloc(), Some("1, first\n0x10"), &["y"], workers);
-        let told = told_of(&rt, COPY, &request, &Silent);
+        let told = run_text(&rt, COPY, &request, &Silent);
         compare_report(&rt, &told, 0, COPY_LINES);
         compare_output(&rt, &told, &[Token::Word(1), Token::Word(16)]);
     }
@@ -166,7 +166,7 @@ fn words_of_a_file_go_through(rt: HostRuntime) {
 fn the_streams_of_two_channels_are_shown(rt: HostRuntime) {
     let mut request = asked(&rt, rt.alloc(), Some("5\n6\n7\n"), &["y"], 1);
     request.show = streams_as(&rt, rt.alloc(), &["y", "x"]);
-    let told = told_of(&rt, COPY, &request, &Silent);
+    let told = run_text(&rt, COPY, &request, &Silent);
     compare_report(&rt, &told, 0, SHOWN_LINES);
 }
 
@@ -183,21 +183,21 @@ fn noted(notes: &Notes) -> (Option<(&str, usize, usize)>, usize, Option<u64>) {
 #[test]
 fn a_run_notes_what_it_left(rt: HostRuntime) {
     let request = asked(&rt, rt.alloc(), Some("5\n-6\n7\n8\n"), &[], 1);
-    let told = told_of(&rt, COPY, &request, &Silent);
+    let told = run_text(&rt, COPY, &request, &Silent);
     same(
         &rt,
         "unread",
         noted(&told.notes),
         (Some(("x", 4, 2)), 1, None),
     );
-    let told = told_of(&rt, COPY, &asked(&rt, rt.alloc(), None, &[], 2), &Silent);
+    let told = run_text(&rt, COPY, &asked(&rt, rt.alloc(), None, &[], 2), &Silent);
     same(
         &rt,
         "empty",
         noted(&told.notes),
         (Some(("x", 0, 0)), 1, None),
     );
-    let told = told_of(&rt, LOOP, &asked(&rt, rt.alloc(), None, &[], 1), &Silent);
+    let told = run_text(&rt, LOOP, &asked(&rt, rt.alloc(), None, &[], 1), &Silent);
     same(&rt, "spent", noted(&told.notes), (None, 0, Some(3)));
 }
 
@@ -206,7 +206,7 @@ fn words_below_0_are_read_and_written(rt: HostRuntime) {
     let words = "-9223372036854775808\n18446744073709551615\n";
     let mut request = asked(&rt, rt.alloc(), Some(words), &["y"], 1);
     request.show = streams_as(&rt, rt.alloc(), &["x"]);
-    let told = told_of(&rt, COPY, &request, &Silent);
+    let told = run_text(&rt, COPY, &request, &Silent);
     compare_output(&rt, &told, &[Token::Word(1 << 63), Token::Word(u64::MAX)]);
     let has_line = told
         .report
@@ -246,7 +246,7 @@ fn a_run_that_is_cut_tells_what_it_has(rt: HostRuntime) {
             told: AtomicU64::new(0),
             entries: AtomicU64::new(0),
         };
-        let told = told_of(&rt, LOOP, &request, &listener);
+        let told = run_text(&rt, LOOP, &request, &listener);
         compare_report(&rt, &told, 3, LOOP_LINES);
         let told = listener.told.load(Ordering::SeqCst);
         let entries = listener.entries.load(Ordering::SeqCst);
@@ -272,19 +272,19 @@ fn ends<R: Abort>(rt: &R, told: &Told, status: u8, lines: &str) {
 #[test]
 fn a_run_runs_dry_beside_an_endless_source(rt: HostRuntime) {
     let mut request = asked(&rt, rt.alloc(), Some("1\n2\n"), &["y"], 1);
-    let told = told_of(&rt, SUM, &request, &Silent);
+    let told = run_text(&rt, SUM, &request, &Silent);
     ends(&rt, &told, 0, "\nverdict ran dry\nactive more\n");
     compare_output(&rt, &told, &[Token::Word(8), Token::Word(9)]);
     request.budget = Some(99);
-    let told = told_of(&rt, SUM, &request, &Silent);
+    let told = run_text(&rt, SUM, &request, &Silent);
     ends(&rt, &told, 0, "end budget\nverdict ran dry\nactive more\n");
     same(&rt, "budget", told.notes.budget, None);
     request.budget = None;
     request.show = streams_as(&rt, rt.alloc(), &["k"]);
-    let told = told_of(&rt, SUM, &request, &Silent);
+    let told = run_text(&rt, SUM, &request, &Silent);
     ends(&rt, &told, 6, "\nverdict full\n");
     let request = asked(&rt, rt.alloc(), Some("1\n2\n"), &[], 2);
-    let told = told_of(&rt, SUM, &request, &Silent);
+    let told = run_text(&rt, SUM, &request, &Silent);
     ends(&rt, &told, 6, "\nverdict full\n");
 }
 
@@ -436,7 +436,7 @@ channel = [{ name = "x", from = "src", to = "p" }, { name = "y", from = "p", to 
 fn an_argument_may_be_negative(rt: HostRuntime) {
     let words = "18446744073709551466\n18446744073709551516\n7\n101\n";
     let request = asked(&rt, rt.alloc(), Some(words), &["y"], 1);
-    let told = told_of(&rt, WITHIN, &request, &Silent);
+    let told = run_text(&rt, WITHIN, &request, &Silent);
     let low = Token::Word(18446744073709551516);
     compare_output(&rt, &told, &[low, low, Token::Word(7), Token::Word(100)]);
 }
@@ -457,7 +457,7 @@ channel = [{ name = "x", from = "src", to = "p" }, { name = "turned", from = "p"
 fn gain_and_offset_take_negative_arguments(rt: HostRuntime) {
     let words = "18446744073709551466\n18446744073709551516\n7\n101\n";
     let request = asked(&rt, rt.alloc(), Some(words), &["y"], 1);
-    let told = told_of(&rt, TURNED, &request, &Silent);
+    let told = run_text(&rt, TURNED, &request, &Silent);
     let due = [
         Token::Word(218),
         Token::Word(143),

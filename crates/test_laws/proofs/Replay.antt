@@ -98,7 +98,7 @@ module _ (kinds : Family) (net : Network) where
           let x : b ≡ c = cc in
           subst (λ y. IsBlocked kinds net M p y) x (record { answer = a; wanted = w; port = k; token = t; act = act; at = e; full = leb-true _ _ g })
 
-  -- the same for an act
+  -- a process that wants an act is blocked on the full channel found for it
   full_act :
       (M : State) (p : ℕ) (x : Act) (c : ℕ) (a : Answer) → act_full kinds net M p x ≡ Some c → wants kinds net M p ≡ Some a → a.act ≡ x
       → IsBlocked kinds net M p c
@@ -106,7 +106,7 @@ module _ (kinds : Family) (net : Network) where
   full_act M p (Read k) c a h w e = cc
   full_act M p (Write k t) c a h w e = full_write M p k t (out_of net p k) c a refl h w e
 
-  -- the same for an answer
+  -- and so is one that wants an answer
   full_answer : (M : State) (p : ℕ) (o : Option Answer) (c : ℕ) → answer_full kinds net M p o ≡ Some c → wants kinds net M p ≡ o → IsBlocked kinds net M p c
   full_answer M p None c h w = cc
   full_answer M p (Some a) c h w = full_act M p a.act c a h w refl

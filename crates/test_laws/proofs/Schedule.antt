@@ -53,7 +53,7 @@ module _ (kinds : Family) (net : Network) where
   act_deed M p (Read k) = read_deed M (in_of net p k)
   act_deed M p (Write k t) = write_deed M t (out_of net p k)
 
-  -- the same for an answer, if there is one
+  -- what an answer comes to, if there is one and it can be done now
   abbrev pub answer_deed : State → ℕ → Option Answer → Option Deed
   answer_deed M p None = None
   answer_deed M p (Some a) = act_deed M p a.act
@@ -64,7 +64,7 @@ module _ (kinds : Family) (net : Network) where
   act_full M p Stop = None
   act_full M p (Read k) = None
 
-  -- the same for an answer, if there is one
+  -- the full channel to which an answer, if there is one, wants to write
   abbrev pub answer_full : State → ℕ → Option Answer → Option ℕ
   answer_full M p None = None
   answer_full M p (Some a) = act_full M p a.act

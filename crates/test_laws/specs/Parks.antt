@@ -76,6 +76,6 @@ parks_digest =
 abbrev pub roomy : Network
 roomy = resized parks (λ c. if c == 2 then 2 else 1)
 
--- the same deadlock, without a growth
+-- its end: that deadlock, without a growth
 abbrev pub roomy_digest : Digest
 roomy_digest = record parks_digest { growths = []; entries = 32 }

@@ -63,7 +63,7 @@ to_merge = words (1 ∷ 3 ∷ 5 ∷ 9 ∷ []) ∷ words (2 ∷ 3 ∷ 4 ∷ []) �
 abbrev pub MergesUpToFour : Type 0
 MergesUpToFour = KindWrites Merge no_arguments to_merge (words (1 ∷ 2 ∷ 3 ∷ 4 ∷ []) ∷ [])
 
--- whether three divides them
+-- three divides 9 and 0
 abbrev pub to_divide : List (List Token)
 to_divide = words (9 ∷ 10 ∷ 0 ∷ []) ∷ []
 

@@ -3,9 +3,9 @@ ghost use Rattle.std.specs.Prelude.{◌≡◌, IsSome, IfOk, map};
 ghost use Rattle.kpn_machine.specs.Opening.{cards_of};
 ghost use Rattle.kpn_standard.specs.Signatures.{signature};
 
-use kpn_body::{Body, answer};
+use kpn_body::Body;
 use kpn_net::{Answer, Card, Local, Net, Token};
-use kpn_standard::Standard;
+use kpn_standard::{Standard, answer};
 use std::alloc::{AllocError, Global};
 use std::sync::Arc;
 use std::sync::atomic::{AtomicU64, Ordering};

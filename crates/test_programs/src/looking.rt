@@ -1,10 +1,10 @@
 //! A user looks at a flow without running it.
 use crate::checks::same;
 use crate::counting::network_of;
-use kpn_body::Standard;
 use kpn_compute::{CardBody, bodies_of};
 use kpn_flow::{Flow, Pause};
 use kpn_net::Token;
+use kpn_standard::Standard;
 use std::alloc::Global;
 use std::process::Abort;
 

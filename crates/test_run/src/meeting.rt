@@ -1,11 +1,12 @@
 //! Two bodies that wait for each other.
 use crate::checks::same;
 use crate::due::{COUNTER_ENDS, Due, READY_CHAIN_ENDS};
-use crate::networks::{Parts, network};
+use crate::networks::{NetAndBodies, network};
 use crate::runs::{finish_of, run_bodies};
-use kpn_body::{Body, Standard, answer};
+use kpn_body::Body;
 use kpn_net::{Answer, Card, End, Local, Net, Token};
 use kpn_run::Open;
+use kpn_standard::{Standard, answer};
 use std::alloc::Global;
 use std::marker::Model;
 use std::process::Abort;
@@ -115,7 +116,7 @@ pub(crate) struct Meeter {
 impl Model for Meeter {
     ghost use Rattle.std.specs.Prelude.{IsSome};
     ghost use Rattle.kpn_model.specs.declared.kinds.Card.{Card};
-    ghost use Rattle.kpn_body.specs.StandardKinds.{signature};
+    ghost use Rattle.kpn_standard.specs.Signatures.{signature};
 
     ghost Value = { Card };
 
@@ -169,7 +170,13 @@ fn meets<R: Threads + Wait + Clock + Abort + Sync>(
     let calls = Arc::new(alloc, Calls::new()).expect(rt, "no memory");
     let net = network(rt, alloc, meeting.text);
     let bodies = meeters(rt, alloc, &net, meeting, &calls);
-    run_bodies(rt, alloc, Parts { net, bodies }, meeting.workers, due);
+    run_bodies(
+        rt,
+        alloc,
+        NetAndBodies { net, bodies },
+        meeting.workers,
+        due,
+    );
     same(rt, "seen", calls.seen(), 2);
 }
 
@@ -263,7 +270,7 @@ fn a_spare_worker_works_again(rt: HostRuntime) {
     let finish = finish_of(
         &rt,
         alloc,
-        Parts { net, bodies },
+        NetAndBodies { net, bodies },
         SPARE_MEETS.workers,
         &Open,
     );

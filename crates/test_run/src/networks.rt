@@ -1,20 +1,21 @@
 //! Networks of the standard kinds, with stateless bodies.
 use crate::checks::same;
-use kpn_body::{Body, Standard};
+use kpn_body::Body;
 use kpn_compute::{CardBody, bodies_of};
 use kpn_net::{Check, Net, NetFault, read_sketch};
+use kpn_standard::Standard;
 use std::alloc::{AllocError, Global};
 use std::process::Abort;
 
 /// A network and its bodies.
 #[derive(Drop)]
-pub(crate) struct Parts<B: Body> {
+pub(crate) struct NetAndBodies<B: Body> {
     pub(crate) net: Net<B::Kinds>,
     pub(crate) bodies: Vec<B>,
 }
 
 /// A network of the standard kinds and its stateless bodies.
-pub(crate) type StandardParts = Parts<CardBody<Standard>>;
+pub(crate) type StandardParts = NetAndBodies<CardBody<Standard>>;
 
 fn check_text(alloc: Global, text: &str) -> Result<Net<Standard>, NetFault> {
     let sketch = read_sketch(alloc, text.as_bytes())?;
@@ -48,7 +49,7 @@ pub(crate) fn parts_or_refused<R: Abort>(
 ) -> Result<StandardParts, AllocError> {
     let net = net_or_refused(rt, alloc, text)?;
     let bodies = bodies_of(alloc, &net)?;
-    Ok(Parts { net, bodies })
+    Ok(NetAndBodies { net, bodies })
 }
 
 pub(crate) fn parts_of<R: Abort>(rt: &R, alloc: Global, text: &str) -> StandardParts {

@@ -1,13 +1,13 @@
 //! Runs by several workers with entries kept in 16 bytes each, against values worked out by hand.
 use crate::checks::same;
 use crate::library::watched::{Witness, counter, often};
-use crate::networks::{Parts, parts_of};
-use kpn_body::Standard;
+use crate::networks::{NetAndBodies, parts_of};
 use kpn_compute::{CardBody, bodies_of};
 use kpn_machine::{Deed, Entry};
 use kpn_net::Token::Word;
 use kpn_observe::{WatchedRun, run_watched_with_keeper};
 use kpn_run::{Finish, Open, run_with_keeper};
+use kpn_standard::Standard;
 use kpn_state::{Keeper, Packed, Recall};
 use std::alloc::{AllocError, Global};
 use std::process::Abort;
@@ -75,7 +75,7 @@ fn run_packed<R: Wait + Clock + Threads + Sync + Abort>(
     text: &str,
     workers: usize,
 ) -> Finish<Standard, Packed> {
-    let Parts { net, bodies } = parts_of(rt, alloc, text);
+    let NetAndBodies { net, bodies } = parts_of(rt, alloc, text);
     let ran = run_with_keeper::<CardBody<Standard>, Packed, R, Open>(
         rt, alloc, net, bodies, workers, &Open,
     );

@@ -4,14 +4,15 @@
 //! succeeds.
 use crate::checks::same;
 use crate::due::{Due, RUNNING_SUMS_END, WOVEN_ENDS, compare};
-use crate::networks::Parts;
-use crate::runs::{Refusal, finish_of, handed_back};
-use kpn_body::{Body, Standard};
+use crate::networks::NetAndBodies;
+use crate::runs::{RunRefusal, finish_of, handed_back};
+use kpn_body::Body;
 use kpn_compute::bodies_of;
 use kpn_front::load;
 use kpn_net::{End, Entry, Kinds, Net, NetFault, Token};
 use kpn_report::Report;
 use kpn_run::{Finish, Open, RunFault, report, run, stream_of};
+use kpn_standard::Standard;
 use std::alloc::{AllocError, Global};
 use std::process::Abort;
 use std::rt::Clock;
@@ -21,7 +22,7 @@ use std::thread::Threads;
 
 /// The allocation that failed, if the test can continue.
 #[derive(Clone, Copy, PartialEq, Eq)]
-enum Refused {
+enum FailedRequest {
     Nothing,
     Load,
     Run,
@@ -32,30 +33,30 @@ enum Refused {
     Elsewhere,
 }
 
-impl Refused {
+impl FailedRequest {
     fn word(self) -> &'static str {
         match self {
-            Refused::Nothing => "nothing",
-            Refused::Load => "load",
-            Refused::Run => "run",
-            Refused::Growth => "growth",
-            Refused::Report => "report",
-            Refused::Stream => "stream",
-            Refused::Elsewhere => "elsewhere",
+            FailedRequest::Nothing => "nothing",
+            FailedRequest::Load => "load",
+            FailedRequest::Run => "run",
+            FailedRequest::Growth => "growth",
+            FailedRequest::Report => "report",
+            FailedRequest::Stream => "stream",
+            FailedRequest::Elsewhere => "elsewhere",
         }
     }
 }
 
 /// If out of memory, retries from the beginning of the description.
-fn load_again<R: Abort>(rt: &R, alloc: Global, text: &str) -> (Net<Standard>, Refused) {
+fn load_again<R: Abort>(rt: &R, alloc: Global, text: &str) -> (Net<Standard>, FailedRequest) {
     match load_text(alloc, text) {
-        Ok(net) => return (net, Refused::Nothing),
+        Ok(net) => return (net, FailedRequest::Nothing),
         Err(fault) => same(rt, "fault", fault, NetFault::Memory),
     }
     let Ok(net) = load_text(alloc, text) else {
         panic!(rt; "refused again");
     };
-    (net, Refused::Load)
+    (net, FailedRequest::Load)
 }
 
 fn load_text(alloc: Global, text: &str) -> Result<Net<Standard>, NetFault> {
@@ -67,14 +68,17 @@ fn load_text(alloc: Global, text: &str) -> Result<Net<Standard>, NetFault> {
 fn finish_again<B: Body, R: Threads + Wait + Clock + Abort + Sync>(
     rt: &R,
     alloc: Global,
-    parts: Parts<B>,
+    parts: NetAndBodies<B>,
     workers: usize,
     due: &Due,
-) -> (Finish<B::Kinds>, Refused) {
-    let Parts { net, bodies } = parts;
+) -> (Finish<B::Kinds>, FailedRequest) {
+    let NetAndBodies { net, bodies } = parts;
     match run(rt, alloc, net, bodies, workers, &Open) {
-        Ok(finish) => (finish, Refused::Nothing),
-        Err(fault) => (finish_at_last(rt, alloc, fault, workers, due), Refused::Run),
+        Ok(finish) => (finish, FailedRequest::Nothing),
+        Err(fault) => (
+            finish_at_last(rt, alloc, fault, workers, due),
+            FailedRequest::Run,
+        ),
     }
 }
 
@@ -88,7 +92,7 @@ fn finish_at_last<B: Body, R: Threads + Wait + Clock + Abort + Sync>(
     let (parts, refusal) = handed_back(rt, fault);
     let found = (refusal, parts.net.processes(), parts.bodies.len());
     let all = due.processes;
-    same(rt, "refused", found, (Refusal::Memory, all, all));
+    same(rt, "refused", found, (RunRefusal::Memory, all, all));
     finish_of(rt, alloc, parts, workers, &Open)
 }
 
@@ -100,12 +104,12 @@ fn report_again<K: Kinds, R: Abort>(
     rt: &R,
     alloc: Global,
     finish: &Finish<K>,
-) -> (Report, Refused) {
+) -> (Report, FailedRequest) {
     match report_if_any(alloc, finish) {
-        Some(report) => (report, Refused::Nothing),
+        Some(report) => (report, FailedRequest::Nothing),
         None => {
             let report = report_if_any(alloc, finish).expect(rt, "refused again");
-            (report, Refused::Report)
+            (report, FailedRequest::Report)
         }
     }
 }
@@ -116,14 +120,14 @@ fn stream_again<K: Kinds, R: Abort>(
     net: &Net<K>,
     history: &[Entry],
     channel: usize,
-) -> (Vec<Token>, Refused) {
+) -> (Vec<Token>, FailedRequest) {
     if let Ok(stream) = stream_of(alloc, net, history, channel) {
-        return (stream, Refused::Nothing);
+        return (stream, FailedRequest::Nothing);
     }
     let Ok(stream) = stream_of(alloc, net, history, channel) else {
         panic!(rt; "refused again");
     };
-    (stream, Refused::Stream)
+    (stream, FailedRequest::Stream)
 }
 
 /// The run ended before its growth, and its report has no detail.
@@ -151,13 +155,13 @@ fn growths_in(history: &[Entry]) -> usize {
     growths
 }
 
-fn first_refused(all: &[Refused]) -> Refused {
+fn first_refused(all: &[FailedRequest]) -> FailedRequest {
     for refused in all {
-        if *refused != Refused::Nothing {
+        if *refused != FailedRequest::Nothing {
             return *refused;
         }
     }
-    Refused::Nothing
+    FailedRequest::Nothing
 }
 
 /// The run got memory for its growths.
@@ -166,7 +170,7 @@ fn tell_again<K: Kinds, R: Abort>(
     alloc: Global,
     finish: &Finish<K>,
     due: &Due,
-) -> Result<Refused, AllocError> {
+) -> Result<FailedRequest, AllocError> {
     let report = tell_report(rt, alloc, finish, due);
     let stream = tell_stream(rt, alloc, finish, due);
     compare(rt, alloc, finish, due)?;
@@ -178,7 +182,7 @@ fn tell_report<K: Kinds, R: Abort>(
     alloc: Global,
     finish: &Finish<K>,
     due: &Due,
-) -> Refused {
+) -> FailedRequest {
     let (told, refused) = report_again(rt, alloc, finish);
     let found = (told.end, told.detail.is_some());
     same(rt, "end, detail", found, (due.end, true));
@@ -190,7 +194,7 @@ fn tell_stream<K: Kinds, R: Abort>(
     alloc: Global,
     finish: &Finish<K>,
     due: &Due,
-) -> Refused {
+) -> FailedRequest {
     let (net, history) = (finish.net(), finish.history());
     let (tokens, refused) = stream_again(rt, alloc, net, history, due.show);
     same(rt, "stream", tokens.as_slice(), due.stream);
@@ -203,10 +207,10 @@ fn run_refused<R: Threads + Wait + Clock + Abort + Sync>(
     alloc: Global,
     workers: usize,
     due: &Due,
-) -> Result<Refused, AllocError> {
+) -> Result<FailedRequest, AllocError> {
     let (net, load) = load_again(rt, alloc, due.network);
     let bodies = bodies_of(alloc, &net)?;
-    let (finish, run) = finish_again(rt, alloc, Parts { net, bodies }, workers, due);
+    let (finish, run) = finish_again(rt, alloc, NetAndBodies { net, bodies }, workers, due);
     let told = tell_refused(rt, alloc, &finish, first_refused(&[load, run]), due);
     drop(finish);
     told
@@ -217,19 +221,19 @@ fn tell_refused<K: Kinds, R: Abort>(
     rt: &R,
     alloc: Global,
     finish: &Finish<K>,
-    before: Refused,
+    before: FailedRequest,
     due: &Due,
-) -> Result<Refused, AllocError> {
+) -> Result<FailedRequest, AllocError> {
     if finish.end() == End::Memory {
         ends_for_memory(rt, alloc, finish)?;
-        return Ok(Refused::Growth);
+        return Ok(FailedRequest::Growth);
     }
     let told = tell_again(rt, alloc, finish, due)?;
     Ok(first_refused(&[before, told]))
 }
 
-fn told(refused: Result<Refused, AllocError>) -> &'static str {
-    refused.unwrap_or(Refused::Elsewhere).word()
+fn told(refused: Result<FailedRequest, AllocError>) -> &'static str {
+    refused.unwrap_or(FailedRequest::Elsewhere).word()
 }
 
 #[test]

@@ -3,10 +3,11 @@ use crate::checks::same;
 use crate::due::{
     COUNTER_ENDS, Due, RUNNING_SUMS_END, SMALL_SINK_ENDS, TWO_FULL_END, WOVEN_ENDS, compare,
 };
-use crate::networks::{Parts, parts_of};
-use kpn_body::{Body, Standard};
+use crate::networks::{NetAndBodies, parts_of};
+use kpn_body::Body;
 use kpn_machine::OpenFault;
 use kpn_run::{Finish, Gate, Open, RunFault, run};
+use kpn_standard::Standard;
 use std::alloc::Global;
 use std::process::Abort;
 use std::rt::Clock;
@@ -16,29 +17,35 @@ use std::thread::Threads;
 
 /// Counts how often the gate is asked: once for each answer.
 #[derive(Drop)]
-pub(crate) struct Counts {
+pub(crate) struct CountingGate {
     pub(crate) asked: AtomicU64,
 }
 
-impl Gate for Counts {
+impl Gate for CountingGate {
     fn before_commit(&self, _process: usize) {
         self.asked.fetch_add(1, Ordering::SeqCst);
     }
 }
 
 #[derive(Clone, Copy, Debug, PartialEq, Eq)]
-pub(crate) enum Refusal {
+pub(crate) enum RunRefusal {
     Workers,
     Open(OpenFault),
     Memory,
 }
 
 /// No answer may be lost.
-pub(crate) fn handed_back<B: Body, R: Abort>(rt: &R, fault: RunFault<B>) -> (Parts<B>, Refusal) {
+pub(crate) fn handed_back<B: Body, R: Abort>(
+    rt: &R,
+    fault: RunFault<B>,
+) -> (NetAndBodies<B>, RunRefusal) {
     match fault {
-        RunFault::Workers { net, bodies } => (Parts { net, bodies }, Refusal::Workers),
-        RunFault::Open { net, bodies, fault } => (Parts { net, bodies }, Refusal::Open(fault)),
-        RunFault::Memory { net, bodies } => (Parts { net, bodies }, Refusal::Memory),
+        RunFault::Workers { net, bodies } => (NetAndBodies { net, bodies }, RunRefusal::Workers),
+        RunFault::Open { net, bodies, fault } => (
+            NetAndBodies { net, bodies },
+            RunRefusal::Open(fault),
+        ),
+        RunFault::Memory { net, bodies } => (NetAndBodies { net, bodies }, RunRefusal::Memory),
         RunFault::Lost { .. } => panic!(rt; "an answer was lost"),
     }
 }
@@ -46,11 +53,11 @@ pub(crate) fn handed_back<B: Body, R: Abort>(rt: &R, fault: RunFault<B>) -> (Par
 pub(crate) fn finish_of<B: Body, R: Threads + Wait + Clock + Abort + Sync, G: Gate>(
     rt: &R,
     alloc: Global,
-    parts: Parts<B>,
+    parts: NetAndBodies<B>,
     workers: usize,
     gate: &G,
 ) -> Finish<B::Kinds> {
-    let Parts { net, bodies } = parts;
+    let NetAndBodies { net, bodies } = parts;
     let Ok(finish) = run(rt, alloc, net, bodies, workers, gate) else {
         panic!(rt; "no run");
     };
@@ -83,11 +90,11 @@ pub(crate) fn shows<R: Threads + Wait + Clock + Abort + Sync, G: Gate>(
 fn refused<B: Body, R: Threads + Wait + Clock + Abort + Sync>(
     rt: &R,
     alloc: Global,
-    parts: Parts<B>,
+    parts: NetAndBodies<B>,
     workers: usize,
-    due: (Refusal, u8),
-) -> Parts<B> {
-    let Parts { net, bodies } = parts;
+    due: (RunRefusal, u8),
+) -> NetAndBodies<B> {
+    let NetAndBodies { net, bodies } = parts;
     let ran = run(rt, alloc, net, bodies, workers, &Open);
     let Err(fault) = ran else {
         panic!(rt; "not refused");
@@ -101,11 +108,11 @@ fn refused<B: Body, R: Threads + Wait + Clock + Abort + Sync>(
 fn run_counted<B: Body, R: Threads + Wait + Clock + Abort + Sync>(
     rt: &R,
     alloc: Global,
-    parts: Parts<B>,
+    parts: NetAndBodies<B>,
     workers: usize,
     due: &Due,
 ) {
-    let counts = Counts {
+    let counts = CountingGate {
         asked: AtomicU64::new(0),
     };
     let finish = finish_of(rt, alloc, parts, workers, &counts);
@@ -127,14 +134,14 @@ fn compare_asked<R: Abort>(rt: &R, asked: u64, due: &Due) {
 pub(crate) fn run_bodies<B: Body, R: Threads + Wait + Clock + Abort + Sync>(
     rt: &R,
     alloc: Global,
-    parts: Parts<B>,
+    parts: NetAndBodies<B>,
     workers: usize,
     due: &Due,
 ) {
-    let parts = refused(rt, alloc, parts, 0, (Refusal::Workers, 1));
-    let mut parts = refused(rt, alloc, parts, 17, (Refusal::Workers, 1));
+    let parts = refused(rt, alloc, parts, 0, (RunRefusal::Workers, 1));
+    let mut parts = refused(rt, alloc, parts, 17, (RunRefusal::Workers, 1));
     let last = parts.bodies.pop().expect(rt, "no body");
-    let due_refusal = (Refusal::Open(OpenFault::Bodies), 2);
+    let due_refusal = (RunRefusal::Open(OpenFault::Bodies), 2);
     let mut parts = refused(rt, alloc, parts, workers, due_refusal);
     same(rt, "pushed", parts.bodies.push(last).is_ok(), true);
     run_counted(rt, alloc, parts, workers, due);

@@ -1,13 +1,14 @@
 //! Reports and streams of entries kept in 16 bytes each, counted or not, and of runs by several workers.
 use crate::checks::same;
-use crate::networks::{Parts, StandardParts, parts_of};
-use kpn_body::{Body, Standard};
+use crate::networks::{NetAndBodies, StandardParts, parts_of};
+use kpn_body::Body;
 use kpn_compute::CardBody;
 use kpn_machine::{Chronicle, Machine};
 use kpn_net::Net;
 use kpn_net::Token::Word;
 use kpn_report::{Entries, Tallied, places_of, stream_of_entries, text_of_entries};
 use kpn_run::{Open, run, run_with_keeper};
+use kpn_standard::Standard;
 use kpn_state::{Keeper, Packed};
 use std::alloc::{AllocError, Global};
 use std::process::Abort;
@@ -20,7 +21,7 @@ fn finished(
     alloc: Global,
     parts: StandardParts,
 ) -> Result<Chronicle<Standard, Tallied>, AllocError> {
-    let Parts { net, bodies } = parts;
+    let NetAndBodies { net, bodies } = parts;
     let opened = Machine::<CardBody<Standard>, Tallied>::open_with_keeper(alloc, net, bodies);
     let Ok(mut machine) = opened else {
         return Err(AllocError);
@@ -96,7 +97,7 @@ fn entries_of<B: Body>(
 #[test]
 fn packed_entries_are_counted(rt: HostRuntime) {
     let alloc = rt.alloc();
-    let Parts { net, bodies } = parts_of(&rt, alloc, COUNTER);
+    let NetAndBodies { net, bodies } = parts_of(&rt, alloc, COUNTER);
     let entries = entries_of(alloc, net, bodies).expect(&rt, "no memory");
     same(&rt, "entries", entries, 8);
 }
@@ -124,7 +125,7 @@ fn tell_by_two<R: Wait + Clock + Threads + Sync>(
     channel: usize,
     sink: &mut String,
 ) -> Result<(), AllocError> {
-    let Parts { net, bodies } = parts;
+    let NetAndBodies { net, bodies } = parts;
     match run(rt, alloc, net, bodies, 2, &Open) {
         Ok(finish) => say_told(alloc, finish.chronicle(), channel, sink),
         Err(_) => Err(AllocError),
@@ -146,7 +147,7 @@ fn shows_by<H: Keeper + Entries + Send, R: Wait + Clock + Threads + Sync + Abort
     workers: usize,
     due: &Reported,
 ) {
-    let Parts { net, bodies } = parts_of(rt, alloc, due.network);
+    let NetAndBodies { net, bodies } = parts_of(rt, alloc, due.network);
     let ran = run_with_keeper::<CardBody<Standard>, H, R, Open>(
         rt, alloc, net, bodies, workers, &Open,
     );
@@ -177,7 +178,7 @@ fn packed_entries_of_workers_have_their_report(rt: HostRuntime) {
 #[test]
 fn packed_entries_have_their_streams(rt: HostRuntime) {
     let alloc = rt.alloc();
-    let Parts { net, bodies } = parts_of(&rt, alloc, COUNTER);
+    let NetAndBodies { net, bodies } = parts_of(&rt, alloc, COUNTER);
     let ran = run_with_keeper::<CardBody<Standard>, Packed, HostRuntime, Open>(
         &rt, alloc, net, bodies, 2, &Open,
     );

@@ -1,10 +1,10 @@
 //! Calls of a flow, with only the contracts that tests need.
 use crate::checks::same;
-use crate::networks::{Parts, parts_of};
-use kpn_body::Standard;
+use crate::networks::{NetAndBodies, parts_of};
 use kpn_compute::CardBody;
 use kpn_flow::{Flow, FlowFault};
 use kpn_net::Token;
+use kpn_standard::Standard;
 use std::alloc::Global;
 use std::process::Abort;
 
@@ -25,7 +25,7 @@ pub(crate) fn flow_of<R: Abort>(
 pub(crate) fn opened<R: Abort>(
     rt: &R,
     alloc: Global,
-    parts: Parts,
+    parts: NetAndBodies,
     inputs: &[usize],
     outputs: &[usize],
 ) -> CardFlow {

@@ -1,10 +1,11 @@
 //! Each fault for which a flow is not opened.
 use crate::checks::same;
 use crate::flow::networks::SCALE;
-use crate::networks::{Parts, parts_of};
-use kpn_body::{Body, Standard};
+use crate::networks::{NetAndBodies, parts_of};
+use kpn_body::Body;
 use kpn_compute::CardBody;
 use kpn_flow::{Flow, FlowFault, FlowRefused, stops_at_once};
+use kpn_standard::Standard;
 use std::alloc::Global;
 use std::process::Abort;
 
@@ -21,13 +22,13 @@ fn assert_handed_back<R: Abort>(
 
 /// The channels to feed and to drain, for which a flow is not opened, and the fault.
 #[derive(Clone, Copy)]
-struct Refusal {
+struct RefusedOpening {
     inputs: &'static [usize],
     outputs: &'static [usize],
     fault: FlowFault,
 }
 
-fn refuse<R: Abort>(rt: &R, alloc: Global, parts: Parts, due: &Refusal) {
+fn refuse<R: Abort>(rt: &R, alloc: Global, parts: NetAndBodies, due: &RefusedOpening) {
     let bodies = parts.bodies.len();
     match Flow::open(alloc, parts.net, parts.bodies, due.inputs, due.outputs) {
         Ok(_) => panic!(rt; "opened in spite of a fault"),
@@ -38,7 +39,7 @@ fn refuse<R: Abort>(rt: &R, alloc: Global, parts: Parts, due: &Refusal) {
     }
 }
 
-fn fresh<R: Abort>(rt: &R, alloc: Global) -> Parts {
+fn fresh<R: Abort>(rt: &R, alloc: Global) -> NetAndBodies {
     parts_of(rt, alloc, SCALE).expect(rt, "no memory for the parts")
 }
 
@@ -56,7 +57,7 @@ static FAULTS: [(&[usize], &[usize], FlowFault); 8] = [
 #[test]
 fn inputs_and_outputs_are_checked(rt: HostRuntime) {
     for (inputs, outputs, fault) in &FAULTS {
-        let due = Refusal {
+        let due = RefusedOpening {
             inputs,
             outputs,
             fault: *fault,
@@ -65,7 +66,7 @@ fn inputs_and_outputs_are_checked(rt: HostRuntime) {
     }
 }
 
-fn stops<R: Abort>(rt: &R, parts: &Parts, process: usize, due: bool) {
+fn stops<R: Abort>(rt: &R, parts: &NetAndBodies, process: usize, due: bool) {
     assert!(rt; process < parts.bodies.len());
     let found = stops_at_once(parts.bodies.as_slice(), process);
     same(rt, "stops at once", found, due);
@@ -83,7 +84,7 @@ fn a_process_of_no_tokens_stops_at_once(rt: HostRuntime) {
 fn bodies_are_checked_first(rt: HostRuntime) {
     let mut few = fresh(&rt, rt.alloc());
     few.bodies.pop();
-    let no_body = Refusal {
+    let no_body = RefusedOpening {
         inputs: &[2],
         outputs: &[],
         fault: FlowFault::Bodies,
@@ -91,7 +92,7 @@ fn bodies_are_checked_first(rt: HostRuntime) {
     refuse(&rt, rt.alloc(), few, &no_body);
     let mut turned = fresh(&rt, rt.alloc());
     turned.bodies.reverse();
-    let another_card = Refusal {
+    let another_card = RefusedOpening {
         fault: FlowFault::Card,
         ..no_body
     };

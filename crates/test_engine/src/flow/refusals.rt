@@ -2,7 +2,7 @@
 use crate::checks::same;
 use crate::flow::flows::{CardFlow, drain_words, opened};
 use crate::flow::networks::OUTPUT_AND_GROWTH;
-use crate::networks::{Parts, parts_of};
+use crate::networks::{NetAndBodies, parts_of};
 use kpn_flow::{Flow, FlowFault, Pause};
 use kpn_net::End;
 use std::alloc::{AllocError, Global};
@@ -11,29 +11,29 @@ use std::test::Fail;
 
 /// The failed request, among those after which a flow can continue.
 #[derive(Clone, Copy)]
-enum Refused {
+enum FailedRequest {
     Nothing,
     Opening,
     Growth,
 }
 
 /// Opens a flow; if out of memory, opens it again with the parts returned.
-fn open_again<R: Abort>(rt: &R, alloc: Global, parts: Parts) -> (CardFlow, Refused) {
+fn open_again<R: Abort>(rt: &R, alloc: Global, parts: NetAndBodies) -> (CardFlow, FailedRequest) {
     match Flow::open(alloc, parts.net, parts.bodies, &[], &[0]) {
-        Ok(flow) => (flow, Refused::Nothing),
+        Ok(flow) => (flow, FailedRequest::Nothing),
         Err(refused) => {
             same(rt, "fault", refused.fault, FlowFault::Memory);
-            let parts = Parts {
+            let parts = NetAndBodies {
                 net: refused.net,
                 bodies: refused.bodies,
             };
-            (opened(rt, alloc, parts, &[], &[0]), Refused::Opening)
+            (opened(rt, alloc, parts, &[], &[0]), FailedRequest::Opening)
         }
     }
 }
 
 /// Runs to the end, again if the growth failed, and returns which request failed: the growth's, or `opening`.
-fn grow<R: Abort>(rt: &R, flow: &mut CardFlow, opening: Refused) -> Refused {
+fn grow<R: Abort>(rt: &R, flow: &mut CardFlow, opening: FailedRequest) -> FailedRequest {
     same(rt, "output", flow.advance(100), Pause::Blocked);
     drain_words(rt, flow, 0, &[7]);
     let pause = flow.advance(100);
@@ -41,10 +41,14 @@ fn grow<R: Abort>(rt: &R, flow: &mut CardFlow, opening: Refused) -> Refused {
     let last = if is_refused { flow.advance(100) } else { pause };
     same(rt, "end", last, Pause::Over(End::Terminated));
     drain_words(rt, flow, 0, &[8]);
-    if is_refused { Refused::Growth } else { opening }
+    if is_refused {
+        FailedRequest::Growth
+    } else {
+        opening
+    }
 }
 
-fn growing_flow<R: Abort>(rt: &R, alloc: Global) -> Result<Refused, AllocError> {
+fn growing_flow<R: Abort>(rt: &R, alloc: Global) -> Result<FailedRequest, AllocError> {
     let parts = parts_of(rt, alloc, OUTPUT_AND_GROWTH)?;
     let (mut flow, opening) = open_again(rt, alloc, parts);
     let refused = grow(rt, &mut flow, opening);
@@ -56,9 +60,9 @@ fn growing_flow<R: Abort>(rt: &R, alloc: Global) -> Result<Refused, AllocError> 
 #[test]
 fn a_refused_request_is_told(rt: HostRuntime) -> Result<(), Fail> {
     let word = match growing_flow(&rt, rt.alloc()) {
-        Ok(Refused::Nothing) => "nothing",
-        Ok(Refused::Opening) => "opening",
-        Ok(Refused::Growth) => "growth",
+        Ok(FailedRequest::Nothing) => "nothing",
+        Ok(FailedRequest::Opening) => "opening",
+        Ok(FailedRequest::Growth) => "growth",
         Err(AllocError) => "elsewhere",
     };
     println!(rt; "refused: {word}")?;

@@ -4,11 +4,11 @@ use hox_stream::{
     EndedStream, Exits, Fill, LaidEnds, LaidOut, Moved, NameFault, NoOnlooker, Onlooker,
     OpenStream, Outlet, Refusal, StreamFault, StreamFinish, open_stream, serve,
 };
-use kpn_body::Standard;
 use kpn_compute::Both;
 use kpn_flow::Pause;
 use kpn_model::{End, Text, Verdict};
 use kpn_net::read_sketch;
+use kpn_standard::Standard;
 use kpn_tokens::{
     Coding, Column, Decimals, Endian, Frame, Layout, RecordFault, Sample, Separator, Width,
 };

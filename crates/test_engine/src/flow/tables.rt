@@ -5,10 +5,10 @@ use hox_stream::{
     EndedStream, Exits, LaidEnds, LaidOut, LaidTable, MOST_AHEAD, NoOnlooker, StreamFinish,
     TableOutlet, open_stream, serve,
 };
-use kpn_body::Standard;
 use kpn_compute::Both;
 use kpn_model::{End, Verdict};
 use kpn_net::read_sketch;
+use kpn_standard::Standard;
 use kpn_tokens::{Coding, Decimals, Endian, Layout, Sample, Separator, Table, Width};
 use std::alloc::Global;
 use std::process::Abort;

@@ -385,7 +385,7 @@ pub(super) static ROWS: [Row; 40] = [
     ),
 ];
 
-/// The same of the kinds from `min` on.
+/// What each of the kinds from `min` on reads and writes.
 pub(super) static MORE_ROWS: [Row; 28] = [
     (
         Signal::Min,

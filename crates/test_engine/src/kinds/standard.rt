@@ -1,13 +1,13 @@
 //! Each line of each standard kind, with numbers of its own; the names, arguments and ports.
 use crate::checks::same;
 use crate::kinds::{meant, ports_given};
-use kpn_body::{
-    add, copy, count, divides, merge, prefix, scale, select, sink, switch, take, weave,
-};
 use kpn_model::Act::{Read, Stop, Write};
 use kpn_model::Token::{Flag, Word};
 use kpn_model::{Act, Answer, Card, Kinds, Local, Signature, Sort};
-use kpn_standard::{Kind, Standard, answer};
+use kpn_standard::{
+    Kind, Standard, add, answer, copy, count, divides, merge, prefix, scale, select, sink, switch,
+    take, weave,
+};
 use std::process::Abort;
 
 /// Compares the answers of a kind with those due.

@@ -1,10 +1,11 @@
 //! Tasks of bodies of standard cards: their readers, and two lines of the table of kinds.
 use crate::checks::same;
-use kpn_body::{Body, Standard, Task};
+use kpn_body::{Body, Task};
 use kpn_compute::CardBody;
 use kpn_model::Act::Write;
 use kpn_model::Token::Word;
 use kpn_model::{Answer, Card, Kinds, Local, Token};
+use kpn_standard::Standard;
 use std::process::Abort;
 
 /// Tasks of process 5, called whole and in parts, give this answer and keep what they were made of.

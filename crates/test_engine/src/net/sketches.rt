@@ -1,10 +1,10 @@
 //! The sketch and the network of a counter into a sink, and faults of each.
 use crate::checks::same;
 use crate::net::tests::{CARDS, COUNTER, ENDS, sketch_of};
-use kpn_body::Standard;
 use kpn_net::{
     Act, ChannelSketch, Check, Net, NetFault, ProcessSketch, Sketch, Sort, Token, read_sketch,
 };
+use kpn_standard::Standard;
 use std::alloc::Global;
 use std::process::Abort;
 

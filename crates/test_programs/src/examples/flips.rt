@@ -5,10 +5,10 @@ ghost use Rattle.test_programs.specs.Flips.{ExecutesFlips};
 ghost use Rattle.example_own_kinds.specs.Flip.{ports, flip, flips};
 
 use example_own_kinds::{FlipBody, Flips, line_of};
-use kpn_body::Call;
 use kpn_execute::execute;
 use kpn_front::Sink;
 use kpn_net::{Answer, Card, Local, Net, Token};
+use kpn_standard::Call;
 use std::alloc::{AllocError, Global};
 use std::rt::Clock;
 use std::sync::Wait;

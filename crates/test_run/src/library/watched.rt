@@ -1,6 +1,6 @@
 //! Watched runs and stopped runs.
 use crate::checks::same;
-use kpn_body::{Body, answer};
+use kpn_body::Body;
 use kpn_builder::{Builder, NewChannel};
 use kpn_compute::{CardBody, bodies_of};
 use kpn_machine::Standing;
@@ -12,7 +12,7 @@ use kpn_observe::{
 };
 use kpn_report::text_of;
 use kpn_run::{Gate, Open, Prompt, stream_of};
-use kpn_standard::Standard;
+use kpn_standard::{Standard, answer};
 use std::alloc::Global;
 use std::marker::Model;
 use std::process::Abort;
@@ -175,7 +175,7 @@ struct Slow {
 impl Model for Slow {
     ghost use Rattle.std.specs.Prelude.{IsSome};
     ghost use Rattle.kpn_model.specs.declared.kinds.Card.{Card};
-    ghost use Rattle.kpn_body.specs.StandardKinds.{signature};
+    ghost use Rattle.kpn_standard.specs.Signatures.{signature};
 
     ghost Value = { Card };
 

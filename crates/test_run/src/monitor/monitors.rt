@@ -3,14 +3,15 @@ ghost use Rattle.std.specs.Prelude.{◌≡◌};
 ghost use Rattle.kpn_machine.specs.MachineView.{IsFresh};
 
 use crate::checks::same;
-use crate::networks::{Parts, parts_of};
-use crate::runs::Counts;
-use kpn_body::{Body, Finished, Standard, Task};
+use crate::networks::{NetAndBodies, parts_of};
+use crate::runs::CountingGate;
+use kpn_body::{Body, Finished, Task};
 use kpn_compute::CardBody;
 use kpn_machine::{Machine, Outcome, Stranger};
 use kpn_monitor::{Closed, EntryLedger, Monitor, Opening, Seat, Taken};
 use kpn_net::{End, Kinds, Net};
 use kpn_run::{Open, Worked, work, work_with};
+use kpn_standard::Standard;
 use kpn_watch::Watcher;
 use std::alloc::Global;
 use std::process::Abort;
@@ -19,7 +20,7 @@ use std::sync::atomic::{AtomicU64, Ordering};
 use std::sync::ledger::Ledger;
 
 #[derive(Clone, Copy, Debug, PartialEq, Eq)]
-pub(crate) struct Ended {
+pub(crate) struct EndedMonitor {
     pub(crate) end: Option<End>,
     pub(crate) receipts: u64,
     pub(crate) entries: usize,
@@ -31,7 +32,7 @@ pub(crate) fn opening_of<R: Abort>(
     alloc: Global,
     text: &str,
 ) -> Opening<CardBody<Standard>> {
-    let Parts { net, bodies } = parts_of(rt, alloc, text);
+    let NetAndBodies { net, bodies } = parts_of(rt, alloc, text);
     let Ok(opening) = Opening::new(alloc, opened(rt, alloc, net, bodies)) else {
         panic!(rt; "no opening");
     };
@@ -119,7 +120,7 @@ pub(crate) fn work_counted<B: Body, E: EntryLedger, O: Ledger, R: Wait + Abort>(
     seat: Seat<E, O>,
     due: u64,
 ) -> Seat<E, O> {
-    let gate = Counts {
+    let gate = CountingGate {
         asked: AtomicU64::new(0),
     };
     let Worked { seat, stranger } = work(rt, monitor, seat, &gate);
@@ -166,7 +167,7 @@ pub(crate) fn ended_alone<B: Body, E: EntryLedger, O: Ledger, R: Abort>(
     alloc: Global,
     monitor: Monitor<B, E, O>,
     seat: Seat<E, O>,
-) -> Ended {
+) -> EndedMonitor {
     let closed = close_alone(rt, alloc, monitor, seat);
     let ended = ended_of(&closed);
     drop(closed);
@@ -185,8 +186,8 @@ pub(crate) fn close_with<B: Body, E: EntryLedger, O: Ledger, R: Abort>(
     closed
 }
 
-pub(crate) fn ended_of<K: Kinds, E: EntryLedger>(closed: &Closed<K, E>) -> Ended {
-    Ended {
+pub(crate) fn ended_of<K: Kinds, E: EntryLedger>(closed: &Closed<K, E>) -> EndedMonitor {
+    EndedMonitor {
         end: closed.end(),
         receipts: closed.receipts(),
         entries: closed.history().len(),

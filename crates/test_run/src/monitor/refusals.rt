@@ -6,8 +6,10 @@ ghost use Rattle.kpn_machine.specs.MachineView.{IsFresh};
 ghost use Rattle.kpn_monitor.specs.Views.{AreNamesOf};
 
 use crate::checks::same;
-use crate::monitor::monitors::{Ended, close_with, ended_of, opened, watcher_of, work_alone};
-use crate::networks::{Parts, parts_or_refused};
+use crate::monitor::monitors::{
+    EndedMonitor, close_with, ended_of, opened, watcher_of, work_alone,
+};
+use crate::networks::{NetAndBodies, parts_or_refused};
 use kpn_body::Body;
 use kpn_machine::{Machine, OpenFault, OpenRefused};
 use kpn_monitor::{EntryLedger, Monitor, Opening};
@@ -23,7 +25,7 @@ use test_texts::{COUNTER_INTO_SMALL_SINK, RUNNING_SUMS};
 
 /// The allocation that failed, if the test can continue.
 #[derive(Clone, Copy, PartialEq, Eq)]
-enum Refused {
+enum FailedRequest {
     Nothing,
     Machine,
     Opening,
@@ -32,20 +34,20 @@ enum Refused {
     Elsewhere,
 }
 
-impl Refused {
+impl FailedRequest {
     fn word(self) -> &'static str {
         match self {
-            Refused::Nothing => "nothing",
-            Refused::Machine => "machine",
-            Refused::Opening => "opening",
-            Refused::Growth => "growth",
-            Refused::Elsewhere => "elsewhere",
+            FailedRequest::Nothing => "nothing",
+            FailedRequest::Machine => "machine",
+            FailedRequest::Opening => "opening",
+            FailedRequest::Growth => "growth",
+            FailedRequest::Elsewhere => "elsewhere",
         }
     }
 
-    fn or(self, next: Refused) -> Refused {
+    fn or(self, next: FailedRequest) -> FailedRequest {
         match self {
-            Refused::Nothing => next,
+            FailedRequest::Nothing => next,
             _ => self,
         }
     }
@@ -58,16 +60,16 @@ fn machine_again<B: Body, R: Abort>(
     net: Net<B::Kinds>,
     bodies: Vec<B>,
     processes: usize,
-) -> (Machine<B>, Refused)
+) -> (Machine<B>, FailedRequest)
     ensures { IsFresh result.0 }
 {
     match Machine::open(alloc, net, bodies) {
-        Ok(machine) => (machine, Refused::Nothing),
+        Ok(machine) => (machine, FailedRequest::Nothing),
         Err(OpenRefused { net, bodies, fault }) => {
             let found = (fault, net.processes(), bodies.len());
             let due = (OpenFault::Memory, processes, processes);
             same(rt, "refused", found, due);
-            (opened(rt, alloc, net, bodies), Refused::Machine)
+            (opened(rt, alloc, net, bodies), FailedRequest::Machine)
         }
     }
 }
@@ -79,7 +81,7 @@ fn opening_again<B: Body, R: Abort>(
     net: Net<B::Kinds>,
     bodies: Vec<B>,
     processes: usize,
-) -> (Opening<B>, Refused) {
+) -> (Opening<B>, FailedRequest) {
     let (machine, first) = machine_again(rt, alloc, net, bodies, processes);
     match Opening::new(alloc, machine) {
         Ok(opening) => (opening, first),
@@ -88,20 +90,20 @@ fn opening_again<B: Body, R: Abort>(
             let Ok(opening) = Opening::new(alloc, machine) else {
                 panic!(rt; "no opening");
             };
-            (opening, first.or(Refused::Opening))
+            (opening, first.or(FailedRequest::Opening))
         }
     }
 }
 
 /// The result of a run, and what a watcher sees after it.
-type Shown = (Ended, Progress);
+type Shown = (EndedMonitor, Progress);
 
 fn work_to_the_end<B: Body, E: EntryLedger, O: Ledger, R: Wait + Abort>(
     rt: &R,
     alloc: Global,
     opening: Opening<B>,
     due: Shown,
-) -> Result<Refused, AllocError>
+) -> Result<FailedRequest, AllocError>
     requires names { AreNamesOf E.EntryLedger O.Ledger opening }
 {
     let (monitor, seat) = Monitor::<B, E, O>::open(opening);
@@ -117,7 +119,7 @@ fn work_to_the_end<B: Body, E: EntryLedger, O: Ledger, R: Wait + Abort>(
 
 /// A counter of three into a sink of one, with the growth out of memory: two puts, a take and a stop.
 static BEFORE_THE_GROWTH: Shown = (
-    Ended {
+    EndedMonitor {
         end: Some(End::Memory),
         receipts: 4,
         entries: 4,
@@ -132,7 +134,7 @@ static BEFORE_THE_GROWTH: Shown = (
 
 /// The result if the growth gets its memory.
 static AFTER_THE_GROWTH: Shown = (
-    Ended {
+    EndedMonitor {
         end: Some(End::Terminated),
         receipts: 7,
         entries: 7,
@@ -147,7 +149,7 @@ static AFTER_THE_GROWTH: Shown = (
 
 /// Running sums; no channel grows.
 static RUNNING_SUMS_SHOWN: Shown = (
-    Ended {
+    EndedMonitor {
         end: Some(End::Deadlock),
         receipts: 26,
         entries: 26,
@@ -164,14 +166,14 @@ static RUNNING_SUMS_SHOWN: Shown = (
 const WORD_BEFORE_THE_GROWTH: u64 = 134_217_733;
 
 /// Returns whether the growth was out of memory; if not, compares with `due`.
-fn growth_refused<R: Abort>(rt: &R, shown: Shown, due: Shown) -> Refused {
+fn growth_refused<R: Abort>(rt: &R, shown: Shown, due: Shown) -> FailedRequest {
     if shown.1.phase != Phase::Memory {
         same(rt, "ended", shown, due);
-        return Refused::Nothing;
+        return FailedRequest::Nothing;
     }
     same(rt, "ended", shown, BEFORE_THE_GROWTH);
     same(rt, "word", word_of(shown.1), WORD_BEFORE_THE_GROWTH);
-    Refused::Growth
+    FailedRequest::Growth
 }
 
 /// The word that shows this (docs/threads.md).
@@ -186,7 +188,7 @@ fn open_refused<B: Body, R: Wait + Abort>(
     net: Net<B::Kinds>,
     bodies: Vec<B>,
     due: Shown,
-) -> Result<Refused, AllocError> {
+) -> Result<FailedRequest, AllocError> {
     let (opening, first) = opening_again(rt, alloc, net, bodies, due.0.processes);
     let second = work_to_the_end::<B, Brand, Brand, R>(rt, alloc, opening, due)?;
     Ok(first.or(second))
@@ -195,10 +197,10 @@ fn open_refused<B: Body, R: Wait + Abort>(
 /// Returns the word for what failed.
 fn monitor_refused<R: Wait + Abort>(rt: &R, alloc: Global, text: &str, due: Shown) -> &'static str {
     let refused = match parts_or_refused(rt, alloc, text) {
-        Ok(Parts { net, bodies }) => open_refused(rt, alloc, net, bodies, due),
+        Ok(NetAndBodies { net, bodies }) => open_refused(rt, alloc, net, bodies, due),
         Err(AllocError) => Err(AllocError),
     };
-    refused.unwrap_or(Refused::Elsewhere).word()
+    refused.unwrap_or(FailedRequest::Elsewhere).word()
 }
 
 #[test]

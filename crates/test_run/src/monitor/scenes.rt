@@ -5,7 +5,7 @@ ghost use Rattle.kpn_monitor.specs.Views.{AreNamesOf};
 use crate::checks::same;
 use crate::monitor::exchanges::{SHOWN, asked_in_place, exchanged};
 use crate::monitor::monitors::{
-    Ended, close_alone, close_with, ended_alone, ended_of, list_of, next_task, opening_of,
+    EndedMonitor, close_alone, close_with, ended_alone, ended_of, list_of, next_task, opening_of,
     outcome_of, two_seats, watcher_of, work_alone, work_counted,
 };
 use crate::monitor::staying::{COUNTER_STAYS, READY_COME_FIRST, counter_plays, refused_between};
@@ -70,14 +70,14 @@ static WOVEN: Progress = Progress {
     phase: Phase::Deadlock,
 };
 
-static WOVEN_ENDED: Ended = Ended {
+static WOVEN_ENDED: EndedMonitor = EndedMonitor {
     end: Some(End::Deadlock),
     receipts: 33,
     entries: 33,
     processes: 4,
 };
 
-pub(crate) static COUNTER_ENDED: Ended = Ended {
+pub(crate) static COUNTER_ENDED: EndedMonitor = EndedMonitor {
     end: Some(End::Terminated),
     receipts: 8,
     entries: 8,

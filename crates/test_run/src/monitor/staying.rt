@@ -3,7 +3,9 @@ ghost use Rattle.std.specs.Prelude.{◌≡◌, length};
 
 use crate::checks::same;
 use crate::monitor::exchanges::call_all;
-use crate::monitor::monitors::{Ended, ended_alone, next_task, opening_of, outcome_of, work_alone};
+use crate::monitor::monitors::{
+    EndedMonitor, ended_alone, next_task, opening_of, outcome_of, work_alone,
+};
 use crate::monitor::scenes::{COUNTER_ENDED, Scene, shows_scene, two_monitors};
 use kpn_body::Body;
 use kpn_machine::{Outcome, Stranger};
@@ -134,14 +136,14 @@ static LEFT_IN_HAND: [Round; 1] = [Round {
 }];
 
 /// The result of the monitor whose tasks are answered at the other.
-static NOTHING_DONE: Ended = Ended {
+static NOTHING_DONE: EndedMonitor = EndedMonitor {
     end: None,
     receipts: 0,
     entries: 0,
     processes: 5,
 };
 
-static CHAIN_ENDED: Ended = Ended {
+static CHAIN_ENDED: EndedMonitor = EndedMonitor {
     end: Some(End::Deadlock),
     receipts: 42,
     entries: 42,

@@ -1,11 +1,11 @@
 //! Answers that the monitor didn't ask for: from another monitor, and made a second time.
 use crate::checks::same;
 use crate::monitor::monitors::{
-    Ended, close_alone, ended_alone, ended_of, handed_back, next_task, opening_of, outcome_of,
-    watcher_of,
+    EndedMonitor, close_alone, ended_alone, ended_of, handed_back, next_task, opening_of,
+    outcome_of, watcher_of,
 };
 use crate::monitor::scenes::two_monitors;
-use crate::networks::{Parts, parts_of};
+use crate::networks::{NetAndBodies, parts_of};
 use kpn_body::{Body, Finished, Task};
 use kpn_machine::Outcome;
 use kpn_monitor::{EntryLedger, Monitor, Seat};
@@ -53,14 +53,14 @@ static ONE_SEEN: Progress = Progress {
     phase: Phase::Running,
 };
 
-static NOTHING_DONE: Ended = Ended {
+static NOTHING_DONE: EndedMonitor = EndedMonitor {
     end: None,
     receipts: 0,
     entries: 0,
     processes: 2,
 };
 
-static ONE_DONE: Ended = Ended {
+static ONE_DONE: EndedMonitor = EndedMonitor {
     end: None,
     receipts: 1,
     entries: 1,
@@ -144,7 +144,7 @@ fn an_answer_of_another_monitor_and_one_a_second_time(rt: HostRuntime) {
     let alloc = rt.alloc();
     let first = opening_of(&rt, alloc, COUNTER_INTO_SINK);
     let second = opening_of(&rt, alloc, COUNTER_INTO_SINK);
-    let Parts { net: _, mut bodies } = parts_of(&rt, alloc, COUNTER_INTO_SINK);
+    let NetAndBodies { net: _, mut bodies } = parts_of(&rt, alloc, COUNTER_INTO_SINK);
     bodies.pop();
     let counter = bodies.pop().expect(&rt, "no counter");
     two_monitors(&rt, alloc, first, second, Some(unasked(counter)));

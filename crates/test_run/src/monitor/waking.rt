@@ -1,7 +1,7 @@
 //! A thread that waits in `take` is woken.
 use crate::checks::same;
 use crate::monitor::monitors::{
-    Ended, close_with, ended_of, list_of, next_task, outcome_of, two_seats, work_alone,
+    EndedMonitor, close_with, ended_of, list_of, next_task, outcome_of, two_seats, work_alone,
 };
 use kpn_body::{Body, Finished, Task};
 use kpn_machine::{End, Outcome};
@@ -33,7 +33,7 @@ from = \"src\"
 to = \"snk\"
 ";
 
-static ONE_ENDED: Ended = Ended {
+static ONE_ENDED: EndedMonitor = EndedMonitor {
     end: Some(End::Terminated),
     receipts: 4,
     entries: 4,

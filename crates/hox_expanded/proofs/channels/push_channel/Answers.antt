@@ -1,6 +1,6 @@
 use Rattle.std.proofs.Common.{codes, string_bytes}
 use Rattle.hox_expanded.specs.Description.{name_part, ends_part, state_part}
-use Rattle.hox_expanded.proofs.Parts.{pushed_four}
+use Rattle.kpn_picture.proofs.Parts.{pushed_four}
 use Rattle.hox_expanded.proofs.channels.push_channel.Goals as goal
 
 pub returns : goal.returns

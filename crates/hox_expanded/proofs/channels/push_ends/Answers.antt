@@ -1,6 +1,6 @@
 use Rattle.std.proofs.Common.{codes, string_bytes}
 use Rattle.hox_expanded.specs.Description.{end_part}
-use Rattle.hox_expanded.proofs.Parts.{pushed_two}
+use Rattle.kpn_picture.proofs.Parts.{pushed_two}
 use Rattle.hox_expanded.proofs.channels.push_ends.Goals as goal
 
 pub returns : goal.returns

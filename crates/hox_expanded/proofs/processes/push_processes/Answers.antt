@@ -2,7 +2,7 @@
 use Rattle.std.proofs.Common.{codes, string_bytes}
 use Rattle.kpn_picture.specs.Titles.{name_of}
 use Rattle.hox_expanded.specs.Description.{name_part, kind_part, arguments_part, process_line}
-use Rattle.hox_expanded.proofs.Parts.{pushed_four, pushed_line}
+use Rattle.kpn_picture.proofs.Parts.{pushed_four, pushed_line}
 use Rattle.hox_expanded.proofs.processes.push_processes.Goals as goal
 
 pub loop-p-preserved : goal.loop-p-preserved

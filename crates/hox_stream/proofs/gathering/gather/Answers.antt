@@ -1,7 +1,7 @@
 -- Nothing at first, and then one more each time.
 use Rattle.std.proofs.Common.{◌<◌, Some, false, drop, length, refl, sym, subst, arith}
 use Rattle.std.proofs.lemmas.List.{take_rest}
-use Rattle.hox_stream.specs.declared.cutting.Next.TheVariants.{Record}
+use Rattle.hox_stream.specs.declared.cutting.FirstRecord.TheVariants.{Record}
 use Rattle.hox_stream.specs.Cutting.{IsNext}
 use Rattle.hox_stream.proofs.Gathered.{end_within, gathers_more, gathers_none, new_end}
 use Rattle.hox_stream.proofs.gathering.gather.Goals as goal

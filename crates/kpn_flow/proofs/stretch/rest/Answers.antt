@@ -14,9 +14,9 @@ returns-in-Some g c =
       limit = refl;
       run = rw c.requires.emptied refl;
       few = rw c.requires.emptied (omega arith);
-      rests = awaited_rests (family_of g.K.Kinds.start g.K.Kinds.answer_of) g.K.Kinds.admits c.args.net.now c.args.core.now.store.state c.args.core.now.standings c.requires.settled.fits.keeps c.args.inputs.now c.args.outputs.now c.requires.idle c.in-Some.pause (rw c.as_slice.ensures.value at c.in-Some.ensures.some);
+      rests = awaited_rests (family_of g.K.Kinds.start g.K.Kinds.answer_of) g.K.Kinds.admits c.args.opened.now.net.now c.args.core.now.store.state c.args.core.now.standings c.requires.settled.fits.keeps c.args.opened.now.inputs.now c.args.opened.now.outputs.now c.requires.idle c.in-Some.pause (rw c.as_slice.ensures.value at c.in-Some.ensures.some);
       none = c.requires.emptied;
-      told = told (family_of g.K.Kinds.start g.K.Kinds.answer_of) g.K.Kinds.admits c.args.net.now c.args.core.now.store.state c.args.core.now.standings c.requires.settled.fits.keeps c.in-Some.pause c.requires.idle;
+      told = told (family_of g.K.Kinds.start g.K.Kinds.answer_of) g.K.Kinds.admits c.args.opened.now.net.now c.args.core.now.store.state c.args.core.now.standings c.requires.settled.fits.keeps c.in-Some.pause c.requires.idle;
       goes = tt;
     }
 
@@ -34,12 +34,12 @@ returns-in-Ended g c =
           let resolves = (rw c.in-Ended.is at c.settle.ensures.resolves) in
           rw resolves.1 (
             resolves.3,
-            none_can_help kinds g.K.Kinds.admits c.args.net.now c.args.core.now.store.state c.args.core.now.standings c.requires.settled.fits.keeps c.requires.idle c.args.inputs.now c.args.outputs.now (rw c.as_slice.ensures.value at c.in_default.ensures.not_fed) (rw c.as_slice.ensures.value at c.in_default.ensures.not_drained),
+            none_can_help kinds g.K.Kinds.admits c.args.opened.now.net.now c.args.core.now.store.state c.args.core.now.standings c.requires.settled.fits.keeps c.requires.idle c.args.opened.now.inputs.now c.args.opened.now.outputs.now (rw c.as_slice.ensures.value at c.in_default.ensures.not_fed) (rw c.as_slice.ensures.value at c.in_default.ensures.not_drained),
           );
       none = rw (rw c.in-Ended.is at c.settle.ensures.resolves).1 c.requires.emptied;
       told =
           let resolves = (rw c.in-Ended.is at c.settle.ensures.resolves) in
-          rw (resolves.1, resolves.2) (told (family_of g.K.Kinds.start g.K.Kinds.answer_of) g.K.Kinds.admits c.args.net.now c.args.core.now.store.state c.args.core.now.standings c.requires.settled.fits.keeps (Over c.in-Ended.end) c.requires.idle);
+          rw (resolves.1, resolves.2) (told (family_of g.K.Kinds.start g.K.Kinds.answer_of) g.K.Kinds.admits c.args.opened.now.net.now c.args.core.now.store.state c.args.core.now.standings c.requires.settled.fits.keeps (Over c.in-Ended.end) c.requires.idle);
       goes = tt;
     }
 
@@ -49,22 +49,22 @@ returns-in-Enlarged g c =
       settled =
           record {
             fits =
-                resolved_settled (family_of g.K.Kinds.start g.K.Kinds.answer_of) g.K.Kinds.admits c.args.net.now c.args.core.now.store c.args.core.now.standings Enlarged c.settle.new.core.store c.settle.new.core.standings c.requires.settled.fits.none_out (rw c.in-Enlarged.is at c.settle.ensures.resolves) c.settle.ensures.coherent.keeps;
+                resolved_settled (family_of g.K.Kinds.start g.K.Kinds.answer_of) g.K.Kinds.admits c.args.opened.now.net.now c.args.core.now.store c.args.core.now.standings Enlarged c.settle.new.core.store c.settle.new.core.standings c.requires.settled.fits.none_out (rw c.in-Enlarged.is at c.settle.ensures.resolves) c.settle.ensures.coherent.keeps;
             waiting = c.settle.ensures.coherent.waiting;
           };
       limit = search rules;
       run =
           let kinds = family_of g.K.Kinds.start g.K.Kinds.answer_of in
-          let none = none_can_help kinds g.K.Kinds.admits c.args.net.now c.args.core.now.store.state c.args.core.now.standings c.requires.settled.fits.keeps c.requires.idle c.args.inputs.now c.args.outputs.now
+          let none = none_can_help kinds g.K.Kinds.admits c.args.opened.now.net.now c.args.core.now.store.state c.args.core.now.standings c.requires.settled.fits.keeps c.requires.idle c.args.opened.now.inputs.now c.args.opened.now.outputs.now
           (rw c.as_slice.ensures.value at c.in_default.ensures.not_fed) (rw c.as_slice.ensures.value at c.in_default.ensures.not_drained) in
-          (alone kinds c.args.net.now c.args.inputs.now c.args.outputs.now c.args.core.now.store c.settle.new.core.store c.args.core.now.standings c.settle.new.core.standings 1 1 c.requires.emptied (enlarged_turned kinds c.args.net.now c.args.inputs.now c.args.outputs.now c.args.core.now.store c.args.core.now.standings c.settle.new.core.store c.settle.new.core.standings none (rw c.in-Enlarged.is at c.settle.ensures.resolves).1)).run;
+          (alone kinds c.args.opened.now.net.now c.args.opened.now.inputs.now c.args.opened.now.outputs.now c.args.core.now.store c.settle.new.core.store c.args.core.now.standings c.settle.new.core.standings 1 1 c.requires.emptied (enlarged_turned kinds c.args.opened.now.net.now c.args.opened.now.inputs.now c.args.opened.now.outputs.now c.args.core.now.store c.args.core.now.standings c.settle.new.core.store c.settle.new.core.standings none (rw c.in-Enlarged.is at c.settle.ensures.resolves).1)).run;
       few = search rules;
       rests = tt;
       none = tt;
       told = tt;
       goes =
           let kinds = family_of g.K.Kinds.start g.K.Kinds.answer_of in
-          let none = none_can_help kinds g.K.Kinds.admits c.args.net.now c.args.core.now.store.state c.args.core.now.standings c.requires.settled.fits.keeps c.requires.idle c.args.inputs.now c.args.outputs.now
+          let none = none_can_help kinds g.K.Kinds.admits c.args.opened.now.net.now c.args.core.now.store.state c.args.core.now.standings c.requires.settled.fits.keeps c.requires.idle c.args.opened.now.inputs.now c.args.opened.now.outputs.now
           (rw c.as_slice.ensures.value at c.in_default.ensures.not_fed) (rw c.as_slice.ensures.value at c.in_default.ensures.not_drained) in
-          (alone kinds c.args.net.now c.args.inputs.now c.args.outputs.now c.args.core.now.store c.settle.new.core.store c.args.core.now.standings c.settle.new.core.standings 1 1 c.requires.emptied (enlarged_turned kinds c.args.net.now c.args.inputs.now c.args.outputs.now c.args.core.now.store c.args.core.now.standings c.settle.new.core.store c.settle.new.core.standings none (rw c.in-Enlarged.is at c.settle.ensures.resolves).1)).goes;
+          (alone kinds c.args.opened.now.net.now c.args.opened.now.inputs.now c.args.opened.now.outputs.now c.args.core.now.store c.settle.new.core.store c.args.core.now.standings c.settle.new.core.standings 1 1 c.requires.emptied (enlarged_turned kinds c.args.opened.now.net.now c.args.opened.now.inputs.now c.args.opened.now.outputs.now c.args.core.now.store c.args.core.now.standings c.settle.new.core.store c.settle.new.core.standings none (rw c.in-Enlarged.is at c.settle.ensures.resolves).1)).goes;
     }

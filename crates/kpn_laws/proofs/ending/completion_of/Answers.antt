@@ -1,4 +1,4 @@
--- The same at a family that is given as a type.
+-- The laws at a family that is given as a type.
 use Rattle.kpn_laws.proofs.GoingOn.{goes_on}
 use Rattle.kpn_laws.proofs.Completing.{few_entries, completes, has_end, never_ends}
 use Rattle.kpn_laws.proofs.ending.completion_of.Goals as goal

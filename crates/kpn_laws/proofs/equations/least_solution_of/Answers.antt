@@ -1,4 +1,4 @@
--- The same at a family that is given as a type.
+-- The laws at a family that is given as a type.
 use Rattle.kpn_laws.proofs.Continuity.{is_function, is_continuous}
 use Rattle.kpn_model.specs.Network.{family_of}
 use Rattle.kpn_laws.proofs.Solutions.{streams_below, end_is_least, end_is_least_from_any}

@@ -1,4 +1,4 @@
--- The same at a family that is given as a type.
+-- The laws at a family that is given as a type.
 use Rattle.kpn_laws.proofs.Sufficient.{own_end, keeps_capacities}
 use Rattle.kpn_laws.proofs.LeastRoom.{chosen_has_fewer, grows_below, stays_below, least_possible, ceiling_suffices, dominates}
 use Rattle.kpn_laws.proofs.FewGrowths.{few_growths}

@@ -1,4 +1,4 @@
--- The same at a family that is given as a type.
+-- The laws at a family that is given as a type.
 use Rattle.kpn_streams.proofs.SolvingPorts.{equation_by_test}
 use Rattle.kpn_model.specs.Network.{family_of}
 use Rattle.kpn_streams.proofs.SolvingFed.{fed_is_alone, fed_is_all}

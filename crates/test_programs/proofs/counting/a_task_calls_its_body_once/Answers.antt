@@ -1,6 +1,6 @@
 -- The start of a copy is admitted.
 use Rattle.std.proofs.Common.{arith}
-use Rattle.kpn_body.specs.StandardKinds.{copy_reads}
+use Rattle.kpn_standard.specs.Copies.{copy_reads}
 use Rattle.test_programs.proofs.counting.a_task_calls_its_body_once.Goals as goal
 
 pub new-task-requires-after_bounds : goal.new-task-requires-after_bounds

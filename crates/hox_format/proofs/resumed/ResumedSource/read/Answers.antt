@@ -1,7 +1,8 @@
 -- What was held comes first, and then what the source has.
 use Rattle.std.proofs.Common.{◌≡◌, ◌++◌, ◌-◌, ◌<◌, ◌≤◌, ℕ, List, length, length-append, length-drop, drop, min, take, ap, ◌∙◌, arith}
 use Rattle.std.proofs.lemmas.List.{length-take-le}
-use Rattle.hox_format.proofs.Resumes.{all_left, held_read, most, most_le, source_read}
+use Rattle.kpn_tokens.proofs.Lefts.{all_left}
+use Rattle.hox_format.proofs.Resumes.{held_read, most, most_le, source_read}
 use Rattle.hox_format.proofs.resumed.ResumedSource.read.Goals as goal
 
 pub returns-then-self-len-clause-bytes : goal.returns-then-self-len-clause-bytes

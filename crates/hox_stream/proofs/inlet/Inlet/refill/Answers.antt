@@ -1,13 +1,9 @@
 -- What was kept, and then what was read.
-use Rattle.std.proofs.Common.{◌≡◌, ◌++◌, ◌-◌, ℕ, List, [], length, length-drop, drop, take, refl, sym, ap, ◌∙◌, append-nil, arith}
-use Rattle.std.proofs.lemmas.List.{take_all}
+use Rattle.std.proofs.Common.{◌++◌, ℕ, List, [], drop, take, refl, sym, ap, ◌∙◌, append-nil, arith}
 use Rattle.std.proofs.lemmas.Grind.{common_steps}
+use Rattle.kpn_tokens.proofs.Lefts.{all_left}
 use Rattle.hox_stream.proofs.Buffered.{keeps_consumes}
 use Rattle.hox_stream.proofs.inlet.Inlet.refill.Goals as goal
-
--- a slice to the end
-all_left : (xs : List ℕ) (n : ℕ) → take (length xs - n) (drop n xs) ≡ drop n xs
-all_left xs n = take_all (length xs - n) (drop n xs) (omega (arith, length-drop n xs))
 
 pub returns-clause-reads : goal.returns-clause-reads
 returns-clause-reads g c =

@@ -1,13 +1,9 @@
 -- Whether the first record of what is kept is there to its end.
-use Rattle.std.proofs.Common.{◌≡◌, ◌-◌, ℕ, List, drop, length, length-drop, take, sym, ap, ◌∙◌, arith}
-use Rattle.std.proofs.lemmas.List.{take_all}
+use Rattle.std.proofs.Common.{◌≡◌, ◌-◌, ℕ, List, drop, length, take, sym, ap, ◌∙◌}
+use Rattle.kpn_tokens.proofs.Lefts.{all_left}
 use Rattle.hox_stream.specs.Cutting.{has_record}
 use Rattle.hox_stream.proofs.Reading.{found_more, wants_by_search}
 use Rattle.hox_stream.proofs.inlet.Inlet.wants_more.Goals as goal
-
--- a slice to the end
-all_left : (xs : List ℕ) (n : ℕ) → take (length xs - n) (drop n xs) ≡ drop n xs
-all_left xs n = take_all (length xs - n) (drop n xs) (omega (arith, length-drop n xs))
 
 pub returns-then-not-self : goal.returns-then-not-self
 returns-then-not-self g c =

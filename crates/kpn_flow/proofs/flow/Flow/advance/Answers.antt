@@ -23,7 +23,7 @@ pub returns-clause-same : goal.returns-clause-same
 returns-clause-same g c = rw (← c.self.view_is) (record { network = refl; inputs = refl; unended = refl; outputs = refl })
 
 pub returns-clause-advances : goal.returns-clause-advances
-returns-clause-advances g c = rw (← c.self.view_is) (rw (c.as_slice-2.ensures.value, c.as_slice-3.ensures.value) at c.go_on.ensures.advances)
+returns-clause-advances g c = rw (← c.self.view_is) (rw (c.as_slice.ensures.value, c.as_slice-2.ensures.value) at c.go_on.ensures.advances)
 
 pub returns-clause-told : goal.returns-clause-told
 returns-clause-told g c = c.go_on.ensures.told

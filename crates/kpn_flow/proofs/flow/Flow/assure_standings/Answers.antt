@@ -1,7 +1,7 @@
 -- The standings fit the state.
 use Rattle.std.proofs.Common.{refl}
 use Rattle.kpn_commit.proofs.Idle.{enabled_busy}
-use Rattle.kpn_flow.proofs.Standing.{idle_wants}
+use Rattle.kpn_machine.proofs.Sound.{idle_wants}
 use Rattle.kpn_flow.proofs.flow.Flow.assure_standings.Goals as goal
 
 pub returns-clause-wanted : goal.returns-clause-wanted

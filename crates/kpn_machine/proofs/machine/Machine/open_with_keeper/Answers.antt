@@ -27,8 +27,8 @@ invariant_of-result g c =
 pub returns-clause-fresh : goal.returns-clause-fresh
 returns-clause-fresh g c = opened_fresh _ c.args.net (start (family_of g.B.Kinds.Kinds.start g.B.Kinds.Kinds.answer_of) c.args.net) (length c.args.net.processes) (search rules)
 
-pub misfit-requires : goal.misfit-requires
-misfit-requires g c = search sendable
+pub bodies_fault-requires : goal.bodies_fault-requires
+bodies_fault-requires g c = search sendable
 
 pub assure_valid-requires : goal.assure_valid-requires
 assure_valid-requires g c = search sendable

@@ -1,10 +1,11 @@
 //! Times a run, from the opening of its machine to its end.
 
 use crate::numbers::burn;
-use kpn_body::{Body, Standard, answer};
+use kpn_body::Body;
 use kpn_machine::Machine;
 use kpn_net::{Answer, Card, Kinds, Local, Net, Token};
 use kpn_run::{Finish, Open, Prompt, RunFault, run};
+use kpn_standard::{Standard, answer};
 use std::alloc::{AllocError, Global};
 use std::hint::spin_loop;
 use std::marker::Model;
@@ -23,7 +24,7 @@ struct Burning {
 impl Model for Burning {
     ghost use Rattle.std.specs.Prelude.{IsSome};
     ghost use Rattle.kpn_model.specs.declared.kinds.Card.{Card};
-    ghost use Rattle.kpn_body.specs.StandardKinds.{signature};
+    ghost use Rattle.kpn_standard.specs.Signatures.{signature};
 
     ghost Value = { Card };
 

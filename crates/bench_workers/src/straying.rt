@@ -1,10 +1,11 @@
 //! Runs a network with bodies that compute for random times, and one process held up for another.
 
 use crate::numbers::{burn, following};
-use kpn_body::{Body, Standard, answer};
+use kpn_body::Body;
 use kpn_net::{Answer, Card, Kinds, Local, Net, Token};
 use kpn_report::{places_of, text_of};
 use kpn_run::{Finish, Hold, run};
+use kpn_standard::{Standard, answer};
 use std::alloc::{AllocError, Global};
 use std::hint::spin_loop;
 use std::marker::Model;
@@ -28,7 +29,7 @@ struct Straying {
 impl Model for Straying {
     ghost use Rattle.std.specs.Prelude.{IsSome};
     ghost use Rattle.kpn_model.specs.declared.kinds.Card.{Card};
-    ghost use Rattle.kpn_body.specs.StandardKinds.{signature};
+    ghost use Rattle.kpn_standard.specs.Signatures.{signature};
 
     ghost Value = { Card };
 

@@ -5,9 +5,9 @@ ghost use Rattle.kpn_standard.specs.Signatures.{signature};
 ghost use Rattle.kpn_standard.specs.Admitted.{Admitted};
 ghost use Rattle.kpn_body.specs.Calls.{IsCallable, Answers, answers_prop};
 
-use crate::body::Body;
+use crate::standard::Standard;
+use kpn_body::Body;
 use kpn_model::{Answer, Card, Local, Token};
-use kpn_standard::Standard;
 
 /// A stored closure from a local state and the last token to the answer.
 pub type Call = Box<dyn Fn(Local, Option<Token>) -> Answer + Send>;

@@ -9,7 +9,7 @@ use Rattle.hox_run.specs.Cuts.{after_verdict, before_verdict, left_at}
 use Rattle.hox_run.specs.Judging.{IsJudged, active_part}
 use Rattle.hox_run.specs.Telling.{places_in}
 use Rattle.hox_run.proofs.ToldRuns.{moved, told_so}
-use Rattle.hox_run.proofs.telling.told_of.Goals as goal
+use Rattle.hox_run.proofs.telling.tell_run.Goals as goal
 
 pub returns : goal.returns
 returns g c =

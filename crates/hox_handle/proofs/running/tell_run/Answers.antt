@@ -2,7 +2,7 @@
 use Rattle.std.proofs.Common.{string_bytes, sym}
 use Rattle.hox_handle.specs.Sessions.{all_kinds}
 use Rattle.hox_handle.proofs.RunReports.{justified, text_told, every_told}
-use Rattle.hox_handle.proofs.running.told_of.Goals as goal
+use Rattle.hox_handle.proofs.running.tell_run.Goals as goal
 
 pub returns : goal.returns
 returns c =

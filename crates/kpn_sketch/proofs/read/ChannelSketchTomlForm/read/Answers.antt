@@ -4,7 +4,7 @@ use Rattle.toml.specs.Data.{as_table}
 use Rattle.toml.specs.View.{view, table_view}
 use Rattle.kpn_sketch.specs.Form.{has_only}
 use Rattle.kpn_sketch.specs.Description.{channel_keys}
-use Rattle.kpn_sketch.proofs.read.ChannelSketchForm.read.Goals as goal
+use Rattle.kpn_sketch.proofs.read.ChannelSketchTomlForm.read.Goals as goal
 
 pub returns-in-Some : goal.returns-in-Some
 returns-in-Some c =

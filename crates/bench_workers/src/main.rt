@@ -13,9 +13,9 @@ mod numbers;
 mod straying;
 
 use burning::{GateChoice, Timing, run_timed};
-use kpn_body::Standard;
 use kpn_front::{Fallible, load};
 use kpn_net::Net;
+use kpn_standard::Standard;
 use std::alloc::{AllocError, Global};
 use std::env;
 use std::process::ExitCode;
@@ -25,7 +25,7 @@ use std::thread::Threads;
 use straying::{Stress, run_stressed};
 
 #[derive(Clone, Copy)]
-enum Asked {
+enum Job {
     Time(Timing),
     Stress(Stress),
 }
@@ -40,7 +40,7 @@ fn main(rt: HostRuntime) -> ExitCode {
     }
 }
 
-fn asked_of<R: Env + AllocGlobal>(rt: &R) -> Option<Asked> {
+fn asked_of<R: Env + AllocGlobal>(rt: &R) -> Option<Job> {
     let Ok(arguments) = env::args(rt) else {
         return None;
     };
@@ -48,12 +48,12 @@ fn asked_of<R: Env + AllocGlobal>(rt: &R) -> Option<Asked> {
         return None;
     };
     match words.get(1)?.as_str() {
-        "time" => Some(Asked::Time(Timing {
+        "time" => Some(Job::Time(Timing {
             workers: size_of(&words, 2)?,
             numbers: number_of(&words, 3)?,
             gate: gate_of(words.get(4)?.as_str())?,
         })),
-        "stress" => Some(Asked::Stress(Stress {
+        "stress" => Some(Job::Stress(Stress {
             workers: size_of(&words, 2)?,
             most: number_of(&words, 3)?,
             seed: number_of(&words, 4)?,
@@ -83,7 +83,7 @@ fn number_of(words: &Vec<String>, place: usize) -> Option<u64> {
 fn play<R: Threads + Wait + Clock + Sync + Input + Print>(
     rt: &R,
     alloc: Global,
-    asked: Asked,
+    asked: Job,
 ) -> Result<(), AllocError> {
     let mut source = Fallible::new(rt.reader());
     let net: Net<Standard> = match load(alloc, &mut source) {
@@ -91,7 +91,7 @@ fn play<R: Threads + Wait + Clock + Sync + Input + Print>(
         Err(_) => return Err(AllocError),
     };
     match asked {
-        Asked::Time(timing) => run_timed(rt, alloc, net, timing),
-        Asked::Stress(stress) => run_stressed(rt, alloc, net, stress),
+        Job::Time(timing) => run_timed(rt, alloc, net, timing),
+        Job::Stress(stress) => run_stressed(rt, alloc, net, stress),
     }
 }

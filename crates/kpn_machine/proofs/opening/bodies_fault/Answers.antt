@@ -4,7 +4,7 @@ use Rattle.std.proofs.Common.{◌≡◌, sym, ap, ◌∙◌, arith, map, get_or,
 use Rattle.kpn_model.specs.Network.{no_process}
 use Rattle.std.proofs.lemmas.List.{length-map, ext_get_or}
 use Rattle.kpn_machine.proofs.Seats.{at_map, card_at}
-use Rattle.kpn_machine.proofs.opening.misfit.Goals as goal
+use Rattle.kpn_machine.proofs.opening.bodies_fault.Goals as goal
 
 pub returns-then-not-same_card-clause-some : goal.returns-then-not-same_card-clause-some
 returns-then-not-same_card-clause-some g c =
