@@ -158,7 +158,7 @@ fn say_turned<R: Eprint>(rt: &R, name: &str, low: i64, high: i64) {
 
 /// How a kind is used, as the help tells it: its name with its arguments, and what it does.
 #[derive(Clone, Copy, Debug)]
-struct Use {
+struct KindUse {
     call: &'static str,
     does: &'static str,
 }
@@ -170,16 +170,16 @@ pub(crate) fn line_of(kind: &str) -> Option<&'static str> {
 }
 
 /// How the kind of this name is used.
-fn use_of(kind: &str) -> Option<Use> {
+fn use_of(kind: &str) -> Option<KindUse> {
     use_in(line_of(kind)?)
 }
 
 /// What a line of the help says of a kind: its call, its ports and what it does, with two spaces or more between them.
-fn use_in(line: &'static str) -> Option<Use> {
+fn use_in(line: &'static str) -> Option<KindUse> {
     let (call, rest) = line.trim().split_once("  ")?;
     let (ports, does) = rest.trim().split_once("  ")?;
     let does = does.trim();
-    ports.contains("->").then_some(Use { call, does })
+    ports.contains("->").then_some(KindUse { call, does })
 }
 
 /// Says what could be at the first port of a process that is the end of no channel.
