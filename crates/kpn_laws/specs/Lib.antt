@@ -7,3 +7,4 @@ pub mod RoomOfRun
 pub mod Alone
 pub mod Equations
 pub mod StreamsOfRun
+pub mod Laws

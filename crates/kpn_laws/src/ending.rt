@@ -1,7 +1,7 @@
 //! A network that can end, or run forever, in bounded room does so.
 ghost use Rattle.kpn_model.specs.Network.{Family};
 ghost use Rattle.kpn_model.specs.Families.{family};
-ghost use Rattle.kpn_laws.specs.Completion.{CanAlwaysGoOn, FewEntries, Completes, HasEnd, NeverEnds};
+ghost use Rattle.kpn_laws.specs.Laws.{LawsOfCompletion};
 
 use kpn_model::Kinds;
 
@@ -14,18 +14,12 @@ use kpn_model::Kinds;
 /// natural end (`completes`), and so reaches one (`has_end`). `never_ends`: if b suffices for any number of
 /// deeds and is within the ceiling, each run can continue.
 pub fn completion()
-    ensures goes_on { (kinds : Family) → CanAlwaysGoOn kinds }
-    ensures few_entries { (kinds : Family) → FewEntries kinds }
-    ensures completes { (kinds : Family) → Completes kinds }
-    ensures has_end { (kinds : Family) → HasEnd kinds }
-    ensures never_ends { (kinds : Family) → NeverEnds kinds }
+    ensures { (kinds : Family) → LawsOfCompletion kinds }
 {}
 
 /// Ghost lemma: the laws of [`completion`] for the family of a type.
 pub fn completion_of<K: Kinds>()
-    ensures goes_on { CanAlwaysGoOn (family K.Kinds) }
-    ensures few_entries { FewEntries (family K.Kinds) }
-    ensures completes { Completes (family K.Kinds) }
-    ensures has_end { HasEnd (family K.Kinds) }
-    ensures never_ends { NeverEnds (family K.Kinds) }
-{}
+    ensures { LawsOfCompletion (family K.Kinds) }
+{
+    completion();
+}

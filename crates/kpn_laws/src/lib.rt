@@ -14,4 +14,4 @@ pub use ending::{completion, completion_of};
 pub use equations::{least_solution, least_solution_of};
 pub use outcome::{determinacy, determinacy_of};
 pub use room::{least_room, least_room_of};
-pub use run::{moments, typed_runs, valid_runs};
+pub use run::{moments, moments_of, typed_runs, valid_runs};

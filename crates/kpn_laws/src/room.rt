@@ -1,9 +1,7 @@
 //! No run takes more room than the network needs.
 ghost use Rattle.kpn_model.specs.Network.{Family};
 ghost use Rattle.kpn_model.specs.Families.{family};
-ghost use Rattle.kpn_laws.specs.Sufficient.{OwnEndSuffices, KeepsCapacities};
-ghost use Rattle.kpn_laws.specs.LeastRoom.{Dominates, ChosenHasFewer, GrowsBelow, StaysBelow, LeastPossible, FewGrowths, CeilingSuffices};
-ghost use Rattle.kpn_laws.specs.RoomOfRun.{EachTakesLeastRoom};
+ghost use Rattle.kpn_laws.specs.Laws.{LawsOfRoom};
 
 use kpn_model::Kinds;
 
@@ -23,28 +21,12 @@ use kpn_model::Kinds;
 /// the network itself shows which capacity suffices. `keeps_capacities`: without growths, no capacity rises.
 /// `each_run`: what this says of one run.
 pub fn least_room()
-    ensures chosen_has_fewer { (kinds : Family) → ChosenHasFewer kinds }
-    ensures grows_below { (kinds : Family) → GrowsBelow kinds }
-    ensures stays_below { (kinds : Family) → StaysBelow kinds }
-    ensures least_possible { (kinds : Family) → LeastPossible kinds }
-    ensures few_growths { (kinds : Family) → FewGrowths kinds }
-    ensures ceiling_suffices { (kinds : Family) → CeilingSuffices kinds }
-    ensures dominates { (kinds : Family) → Dominates kinds }
-    ensures own_end { (kinds : Family) → OwnEndSuffices kinds }
-    ensures keeps_capacities { (kinds : Family) → KeepsCapacities kinds }
-    ensures each_run { (kinds : Family) → EachTakesLeastRoom kinds }
+    ensures { (kinds : Family) → LawsOfRoom kinds }
 {}
 
 /// Ghost lemma: the laws of [`least_room`] for the family of a type.
 pub fn least_room_of<K: Kinds>()
-    ensures chosen_has_fewer { ChosenHasFewer (family K.Kinds) }
-    ensures grows_below { GrowsBelow (family K.Kinds) }
-    ensures stays_below { StaysBelow (family K.Kinds) }
-    ensures least_possible { LeastPossible (family K.Kinds) }
-    ensures few_growths { FewGrowths (family K.Kinds) }
-    ensures ceiling_suffices { CeilingSuffices (family K.Kinds) }
-    ensures dominates { Dominates (family K.Kinds) }
-    ensures own_end { OwnEndSuffices (family K.Kinds) }
-    ensures keeps_capacities { KeepsCapacities (family K.Kinds) }
-    ensures each_run { EachTakesLeastRoom (family K.Kinds) }
-{}
+    ensures { LawsOfRoom (family K.Kinds) }
+{
+    least_room();
+}

@@ -4,7 +4,7 @@ ghost use Rattle.kpn_model.specs.declared.kinds.Card.{Card};
 ghost use Rattle.kpn_model.specs.declared.kinds.Signature.{Signature};
 ghost use Rattle.kpn_model.specs.Network.{Family};
 ghost use Rattle.kpn_model.specs.Families.{family};
-ghost use Rattle.kpn_model.specs.Moments.{OneState, PrefixesAreRuns, AlwaysWithin, HistoryTellsState, BudgetSuffices, EnabledCanDo, OneCause};
+ghost use Rattle.kpn_laws.specs.Laws.{LawsOfMoments};
 ghost use Rattle.kpn_model.specs.Valid.{StaysWellTyped};
 ghost use Rattle.kpn_laws.specs.ValidRuns.{StartsWithin, StaysWithin};
 
@@ -18,14 +18,15 @@ use kpn_model::Kinds;
 /// budget if one that is over has fewer entries. `enabled`: a process is enabled exactly when it can do a
 /// deed. `one_cause`: a run is over for at most one cause.
 pub fn moments()
-    ensures one_state { (kinds : Family) → OneState kinds }
-    ensures prefixes { (kinds : Family) → PrefixesAreRuns kinds }
-    ensures within { (kinds : Family) → AlwaysWithin kinds }
-    ensures told { (kinds : Family) → HistoryTellsState kinds }
-    ensures budget { (kinds : Family) → BudgetSuffices kinds }
-    ensures enabled { (kinds : Family) → EnabledCanDo kinds }
-    ensures one_cause { (kinds : Family) → OneCause kinds }
+    ensures { (kinds : Family) → LawsOfMoments kinds }
 {}
+
+/// Ghost lemma: the laws of [`moments`] for the family of a type.
+pub fn moments_of<K: Kinds>()
+    ensures { LawsOfMoments (family K.Kinds) }
+{
+    moments();
+}
 
 /// Ghost lemma: no channel of a valid network ever exceeds its capacity.
 pub fn valid_runs()

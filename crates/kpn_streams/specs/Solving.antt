@@ -220,3 +220,20 @@ module _ (kinds : Family) where
   AlikeComputeTheSame =
       (net other : Network) (X : ℕ → List Token)
       → bare net ≡ bare other → HasStreams kinds net X → HasStreams kinds other X
+
+  -- the laws by which the equations are solved
+  pub record LawsOfSolving : Type 0 where
+    pub equation : EquationByTest
+    pub fed_alone : FedIsAlone
+    pub fed_all : FedIsAll
+    pub limit : LimitIsLeast
+    pub grow : ApproximationsGrow
+    pub below : ApproximationsAreBelow
+    pub approximated : RunIsApproximated
+    pub fixed : FixedIsComputed
+    pub solved : SolvedIsSolution
+    pub solves : SolutionSolves
+    pub computed : SolvedIsComputed
+    pub step : StepIsBelow
+    pub ordered : OrderedIsComputed
+    pub alike : AlikeComputeTheSame

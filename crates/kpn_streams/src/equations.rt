@@ -1,7 +1,7 @@
 //! Solves a network's equations with functions on streams.
 ghost use Rattle.kpn_model.specs.Network.{Family};
 ghost use Rattle.kpn_model.specs.Families.{family};
-ghost use Rattle.kpn_streams.specs.Solving.{TestTellsPorts, TestTellsOrder, EquationByTest, FedIsAlone, FedIsAll, StepIsBelow, ApproximationsAreBelow, ApproximationsGrow, RunIsApproximated, LimitIsLeast, FixedIsComputed, SolvedIsSolution, SolutionSolves, SolvedIsComputed, OrderedIsComputed, AlikeComputeTheSame};
+ghost use Rattle.kpn_streams.specs.Solving.{TestTellsPorts, TestTellsOrder, LawsOfSolving};
 
 use kpn_model::Kinds;
 
@@ -29,36 +29,12 @@ use kpn_model::Kinds;
 pub fn solving()
     ensures ports { TestTellsPorts }
     ensures order { TestTellsOrder }
-    ensures equation { (kinds : Family) → EquationByTest kinds }
-    ensures fed_alone { (kinds : Family) → FedIsAlone kinds }
-    ensures fed_all { (kinds : Family) → FedIsAll kinds }
-    ensures limit { (kinds : Family) → LimitIsLeast kinds }
-    ensures grow { (kinds : Family) → ApproximationsGrow kinds }
-    ensures below { (kinds : Family) → ApproximationsAreBelow kinds }
-    ensures approximated { (kinds : Family) → RunIsApproximated kinds }
-    ensures fixed { (kinds : Family) → FixedIsComputed kinds }
-    ensures solved { (kinds : Family) → SolvedIsSolution kinds }
-    ensures solves { (kinds : Family) → SolutionSolves kinds }
-    ensures computed { (kinds : Family) → SolvedIsComputed kinds }
-    ensures step { (kinds : Family) → StepIsBelow kinds }
-    ensures ordered { (kinds : Family) → OrderedIsComputed kinds }
-    ensures alike { (kinds : Family) → AlikeComputeTheSame kinds }
+    ensures laws { (kinds : Family) → LawsOfSolving kinds }
 {}
 
 /// Ghost lemma: the laws of [`solving`] for the family of a type.
 pub fn solving_of<K: Kinds>()
-    ensures equation { EquationByTest (family K.Kinds) }
-    ensures fed_alone { FedIsAlone (family K.Kinds) }
-    ensures fed_all { FedIsAll (family K.Kinds) }
-    ensures limit { LimitIsLeast (family K.Kinds) }
-    ensures grow { ApproximationsGrow (family K.Kinds) }
-    ensures below { ApproximationsAreBelow (family K.Kinds) }
-    ensures approximated { RunIsApproximated (family K.Kinds) }
-    ensures fixed { FixedIsComputed (family K.Kinds) }
-    ensures solved { SolvedIsSolution (family K.Kinds) }
-    ensures solves { SolutionSolves (family K.Kinds) }
-    ensures computed { SolvedIsComputed (family K.Kinds) }
-    ensures step { StepIsBelow (family K.Kinds) }
-    ensures ordered { OrderedIsComputed (family K.Kinds) }
-    ensures alike { AlikeComputeTheSame (family K.Kinds) }
-{}
+    ensures { LawsOfSolving (family K.Kinds) }
+{
+    solving();
+}

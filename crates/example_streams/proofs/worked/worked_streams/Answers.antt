@@ -13,8 +13,7 @@ use Rattle.example_streams.proofs.worked.worked_streams.Goals as goal
 pub returns : goal.returns
 returns c =
     let kinds = c.standard_functions.ensures in
-    let nets = c.solving.ensures in
-    let runs = c.least_solution.ensures in
+    let solving = c.solving.ensures.laws standard in
     let laws : Laws = record {
       count = kinds.count;
       take = kinds.take;
@@ -26,16 +25,16 @@ returns c =
       divides = kinds.divides;
       switch = kinds.switch;
       union = kinds.union;
-      order = nets.order;
-      equation = nets.equation standard;
-      step = nets.step standard;
-      fixed = nets.fixed standard;
-      computed = nets.computed standard;
-      ordered = nets.ordered standard;
-      approximated = nets.approximated standard;
-      solves = nets.solves standard;
-      limit = nets.limit standard;
-      from_any = runs.end_is_least_from_any standard;
+      order = c.solving.ensures.order;
+      equation = solving.equation;
+      step = solving.step;
+      fixed = solving.fixed;
+      computed = solving.computed;
+      ordered = solving.ordered;
+      approximated = solving.approximated;
+      solves = solving.solves;
+      limit = solving.limit;
+      from_any = (c.least_solution.ensures standard).end_is_least_from_any;
     } in
     record {
       running_sums = has_running_sums laws;

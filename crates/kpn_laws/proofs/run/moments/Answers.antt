@@ -3,23 +3,13 @@ use Rattle.kpn_laws.proofs.EachMoment.{one_state, prefixes, history_tells_state,
 use Rattle.kpn_laws.proofs.Within.{always_within}
 use Rattle.kpn_laws.proofs.run.moments.Goals as goal
 
-pub returns-clause-one_state : goal.returns-clause-one_state
-returns-clause-one_state c = one_state
-
-pub returns-clause-prefixes : goal.returns-clause-prefixes
-returns-clause-prefixes c = prefixes
-
-pub returns-clause-within : goal.returns-clause-within
-returns-clause-within c = always_within
-
-pub returns-clause-told : goal.returns-clause-told
-returns-clause-told c = history_tells_state
-
-pub returns-clause-budget : goal.returns-clause-budget
-returns-clause-budget c = budget_suffices
-
-pub returns-clause-enabled : goal.returns-clause-enabled
-returns-clause-enabled c = enabled_can_do
-
-pub returns-clause-one_cause : goal.returns-clause-one_cause
-returns-clause-one_cause c = one_cause
+pub returns : goal.returns
+returns c = λ kinds. record {
+  one_state = one_state kinds;
+  prefixes = prefixes kinds;
+  within = always_within kinds;
+  told = history_tells_state kinds;
+  budget = budget_suffices kinds;
+  enabled = enabled_can_do kinds;
+  one_cause = one_cause kinds;
+}

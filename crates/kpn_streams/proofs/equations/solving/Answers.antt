@@ -10,47 +10,23 @@ use Rattle.kpn_streams.proofs.equations.solving.Goals as goal
 pub returns-clause-ports : goal.returns-clause-ports
 returns-clause-ports c = test_tells_ports
 
-pub returns-clause-fed_alone : goal.returns-clause-fed_alone
-returns-clause-fed_alone c = fed_is_alone
-
-pub returns-clause-fed_all : goal.returns-clause-fed_all
-returns-clause-fed_all c = fed_is_all
-
-pub returns-clause-limit : goal.returns-clause-limit
-returns-clause-limit c = limit_is_least
-
-pub returns-clause-grow : goal.returns-clause-grow
-returns-clause-grow c = approximations_grow
-
-pub returns-clause-below : goal.returns-clause-below
-returns-clause-below c = approximations_are_below
-
-pub returns-clause-approximated : goal.returns-clause-approximated
-returns-clause-approximated c = run_is_approximated
-
-pub returns-clause-fixed : goal.returns-clause-fixed
-returns-clause-fixed c = fixed_is_computed
-
-pub returns-clause-solved : goal.returns-clause-solved
-returns-clause-solved c = solved_is_solution
-
-pub returns-clause-computed : goal.returns-clause-computed
-returns-clause-computed c = solved_is_computed
-
-pub returns-clause-step : goal.returns-clause-step
-returns-clause-step c = step_is_below
-
-pub returns-clause-ordered : goal.returns-clause-ordered
-returns-clause-ordered c = ordered_is_computed
-
-pub returns-clause-solves : goal.returns-clause-solves
-returns-clause-solves c = solution_solves
-
 pub returns-clause-order : goal.returns-clause-order
 returns-clause-order c = test_tells_order
 
-pub returns-clause-equation : goal.returns-clause-equation
-returns-clause-equation c = equation_by_test
-
-pub returns-clause-alike : goal.returns-clause-alike
-returns-clause-alike c = alike_compute_the_same
+pub returns-clause-laws : goal.returns-clause-laws
+returns-clause-laws c = λ kinds. record {
+  equation = equation_by_test kinds;
+  fed_alone = fed_is_alone kinds;
+  fed_all = fed_is_all kinds;
+  limit = limit_is_least kinds;
+  grow = approximations_grow kinds;
+  below = approximations_are_below kinds;
+  approximated = run_is_approximated kinds;
+  fixed = fixed_is_computed kinds;
+  solved = solved_is_solution kinds;
+  solves = solution_solves kinds;
+  computed = solved_is_computed kinds;
+  step = step_is_below kinds;
+  ordered = ordered_is_computed kinds;
+  alike = alike_compute_the_same kinds;
+}
