@@ -2,14 +2,15 @@
 ghost use Rattle.std.specs.Prelude.{◌≤◌, length};
 
 use crate::formulas::{is_formula, say_formula};
+use crate::kinds::help_of;
 use crate::messages::place_of;
-use hox_args::KINDS as TABLE;
 use hox_network::{AllKinds, KINDS, sketch_by_ports};
 use kpn_message::{Location, Message};
 use kpn_model::Text;
 use kpn_model::limits::HIGH_CEILING;
 use kpn_net::faults::{is_unused_in, is_unused_out, process_named, signature_of};
 use kpn_net::{ChannelSketch, Check, Delay, Net, NetFault, ProcessSketch, Sketch, read_delayed};
+use kpn_standard::Help;
 use std::alloc::Global;
 use std::str;
 
@@ -144,8 +145,8 @@ fn say_arguments<R: Eprint>(rt: &R, process: &ProcessSketch, text: &str) {
         }
     }
     say_part(rt, "", text);
-    if let Some(use_of) = use_of(process.kind.as_str()) {
-        let _ = eprint!(rt; "; {}: {}", use_of.call, use_of.does);
+    if let Some(help) = help_of(process.kind.as_str()) {
+        say_use(rt, help);
     }
 }
 
@@ -156,30 +157,11 @@ fn say_turned<R: Eprint>(rt: &R, name: &str, low: i64, high: i64) {
     );
 }
 
-/// How a kind is used, as the help tells it: its name with its arguments, and what it does.
-#[derive(Clone, Copy, Debug)]
-struct KindUse {
-    call: &'static str,
-    does: &'static str,
-}
-
-/// The line of the table of kinds on the kind of this name.
-pub(crate) fn line_of(kind: &str) -> Option<&'static str> {
-    let mut lines = TABLE.lines().map(str::trim);
-    lines.find(|line| use_in(line).is_some() && line.split_whitespace().next() == Some(kind))
-}
-
-/// How the kind of this name is used.
-fn use_of(kind: &str) -> Option<KindUse> {
-    use_in(line_of(kind)?)
-}
-
-/// What a line of the help says of a kind: its call, its ports and what it does, with two spaces or more between them.
-fn use_in(line: &'static str) -> Option<KindUse> {
-    let (call, rest) = line.trim().split_once("  ")?;
-    let (ports, does) = rest.trim().split_once("  ")?;
-    let does = does.trim();
-    ports.contains("->").then_some(KindUse { call, does })
+/// Says how a kind is used: its name with its arguments, and what it does.
+fn say_use<R: Eprint>(rt: &R, help: &Help) {
+    let (name, arguments, does) = (help.name, help.arguments, help.does);
+    let space = if arguments.is_empty() { "" } else { " " };
+    let _ = eprint!(rt; "; {name}{space}{arguments}: {does}");
 }
 
 /// Says what could be at the first port of a process that is the end of no channel.

@@ -26,10 +26,10 @@ use crate::kinds::list_kinds;
 use crate::messages::{say_no_memory, say_stop};
 use crate::progress::ProgressLine;
 use crate::screen::Screen;
-use crate::stream_line::StreamLine;
+use crate::stream_line::StreamProgress;
 use crate::streaming::stream_asked;
 use crate::unused::say_unused_by_run;
-use hox_execute::{Executed, Stop, execute};
+use hox_execute::{ServedCommand, Stop, serve};
 use hox_network::AllKinds;
 use std::alloc::AllocError;
 use std::io::IsTerminal;
@@ -78,7 +78,7 @@ fn status_by_texts<R: Files + Input + Print + Eprint + AllocGlobal + Wait + Cloc
 ) -> u8 {
     let line = ProgressLine::new(rt, is_terminal);
     let mut host = Host::new(rt, screen, &line);
-    let outcome = execute::<AllKinds, _, _, _>(rt, rt.alloc(), &mut host, texts, &line);
+    let outcome = serve::<AllKinds, _, _, _>(rt, rt.alloc(), &mut host, texts, &line);
     line.clear();
     status_after(rt, screen, &host, &outcome)
 }
@@ -89,20 +89,20 @@ fn status_after<R: Files + Input + Print + Eprint + AllocGlobal + Clock>(
     rt: &R,
     screen: &Screen<'_, R>,
     host: &Host<'_, R>,
-    outcome: &Result<Executed<'_>, Stop<'_>>,
+    outcome: &Result<ServedCommand<'_>, Stop<'_>>,
 ) -> u8 {
     match outcome {
-        Ok(Executed::Exits(status)) => status.code(),
-        Ok(Executed::Ran(ran)) => {
+        Ok(ServedCommand::Exits(status)) => status.code(),
+        Ok(ServedCommand::Ran(ran)) => {
             say_files(screen, ran.outputs.as_slice(), ran.files.as_slice());
             say_unused_by_run(screen, &ran);
             ran.status.code()
         }
-        Ok(Executed::Streams(stream)) => {
-            let line = StreamLine::new(rt, stream, screen.is_terminal());
+        Ok(ServedCommand::Streams(stream)) => {
+            let line = StreamProgress::new(rt, stream, screen.is_terminal());
             stream_asked(screen, host, stream, &line)
         }
-        Ok(Executed::Lists(kinds)) => list_kinds(screen, kinds),
+        Ok(ServedCommand::Lists(kinds)) => list_kinds(screen, kinds),
         Err(stop) => say_stop(screen, stop),
     }
 }

@@ -20,7 +20,7 @@ const EMPTY: &str = "                    ";
 /// The table of channels, and below it the line of progress, each if it was asked for. On a terminal it is written
 /// over the one before.
 #[derive(Drop)]
-pub(crate) struct StreamLine<'a, R> {
+pub(crate) struct StreamProgress<'a, R> {
     rt: &'a R,
     has_line: bool,
     has_table: bool,
@@ -33,14 +33,14 @@ pub(crate) struct StreamLine<'a, R> {
     rows: AtomicU64,
 }
 
-impl<'a, R: Clock> StreamLine<'a, R> {
+impl<'a, R: Clock> StreamProgress<'a, R> {
     /// What is shown of a stream that starts now.
     pub(crate) fn new(
         rt: &'a R,
         choice: &StreamChoice<'_>,
         is_terminal: bool,
-    ) -> StreamLine<'a, R> {
-        StreamLine {
+    ) -> StreamProgress<'a, R> {
+        StreamProgress {
             rt,
             has_line: choice.progress,
             has_table: choice.watch,
@@ -64,7 +64,7 @@ impl<'a, R: Clock> StreamLine<'a, R> {
     }
 }
 
-impl<'a, R: Eprint> StreamLine<'a, R> {
+impl<'a, R: Eprint> StreamProgress<'a, R> {
     /// Clears the line of progress, if it stands there.
     pub(crate) fn end(&self) {
         if self.has_line && self.is_written.load(Ordering::SeqCst) {
@@ -96,7 +96,7 @@ fn show_row<R: Eprint>(rt: &R, fill: Fill<'_>) {
     let _ = eprintln!(rt; "{name:<16} [{full}{empty}] {tokens} of {capacity}");
 }
 
-impl<'a, R: Clock + Eprint> Onlooker for StreamLine<'a, R> {
+impl<'a, R: Clock + Eprint> Onlooker for StreamProgress<'a, R> {
     fn is_due(&self) -> bool {
         (self.has_line || self.has_table) && self.millis() >= self.due.load(Ordering::SeqCst)
     }

@@ -5,7 +5,7 @@ use crate::host::Host;
 use crate::messages::{say_no_memory, say_refused, say_stop};
 use crate::reasons::{say_undescribed, say_unreadable, say_unwritten};
 use crate::screen::Screen;
-use crate::stream_line::StreamLine;
+use crate::stream_line::StreamProgress;
 use crate::told::say_told;
 use hox_args::StreamChoice;
 use hox_execute::{Pair, StreamEnds, StreamStop, stream};
@@ -24,7 +24,7 @@ pub(crate) fn stream_asked<R: Files + Input + Print + Eprint + AllocGlobal + Clo
     screen: &Screen<'_, R>,
     host: &Host<'_, R>,
     choice: &StreamChoice<'_>,
-    line: &StreamLine<'_, R>,
+    line: &StreamProgress<'_, R>,
 ) -> u8 {
     let streamed = stream::<AllKinds, _, _>(screen.alloc(), host, choice, line);
     line.end();

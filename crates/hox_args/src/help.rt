@@ -60,62 +60,6 @@ The description is TOML. Its keys, with their defaults in brackets:
 Without a budget a run has the greatest one of its version. Several channels may leave an output: each gets all.
 ";
 
-/// The kinds of processes, each on a line that begins with two spaces and its name.
-pub const KINDS: &str = "\
-Kinds of processes, with their arguments and their ports, inputs -> outputs (w a word, f a flag):
-  count FROM N    -> w        writes FROM, FROM + 1, .. (N words), then stops
-  sink N          w ->        reads N words, then stops
-  take N          w -> w      copies N words, then stops
-  copy            w -> w w    writes each word to both outputs
-  prefix V        w -> w      writes V, then copies
-  add             w w -> w    writes the sums
-  scale K         w -> w      writes the products by K
-  weave A B       w w -> w    copies A words of input 0, then B of input 1, and so on
-  merge           w w -> w    makes one stream in order of two, equal words once
-  divides M       w -> f      writes whether M divides the word
-  switch          w f -> w w  writes to output 1 if the flag is true, else to output 0
-  select          w w f -> w  reads input 1 if the flag is true, else input 0
-  input           -> w        stops at once; its channel's words come from a file
-  input_flags     -> f        stops at once; its channel's flags come from a file
-  drain           w ->        reads for ever
-  drain_flags     f ->        reads for ever
-  constant V      -> w        writes V for ever
-  count_up        -> w        writes 0, 1, 2, .. modulo 2^64 for ever
-  sub             w w -> w    writes the words of input 0 minus those of input 1, modulo 2^64
-  mul             w w -> w    writes the products modulo 2^64
-  shift K         w -> w      writes each word / 2^K, rounded down, signed; K from 0 to 63
-  left K          w -> w      writes each word * 2^K, modulo 2^64; K from 0 to 63
-  less            w w -> f    writes whether the word of input 0 is less, signed
-  equal           w w -> f    writes whether the two words are equal
-  not             f -> f      writes the other flag
-  and             f f -> f    writes whether both flags are true
-  or              f f -> f    writes whether one of the flags is true
-  decimate N      w -> w      of each N words writes the first; N at least 1
-  repeat N        w -> w      writes each word N times; N at least 1
-  hold V          w f -> w    writes the word if the flag is true, else the one that it wrote last, V at first
-  delay N         w -> w      writes for each word the one N before, 0 at first; N from 1 to 4
-  low_pass K      w -> w      y += (x - y) / 2^K, rounded down, signed, from y = 0: writes y; K from 0 to 63
-  clip LO HI      w -> w      writes the nearest word from LO to HI, signed
-  copy_flags      f -> f f    writes each flag to both outputs
-  min             w w -> w    writes the lesser word, signed
-  max             w w -> w    writes the greater word, signed
-  abs             w -> w      writes the absolute value of each word, signed
-  offset K        w -> w      writes each word plus K, modulo 2^64
-  gain A B        w -> w      writes each word * A / B, rounded down, signed, then modulo 2^64; B at least 1
-  div             w w -> w    writes input 0's word / input 1's, rounded down, signed; 0 if that is 0
-  mod             w w -> w    writes what div leaves of input 0's word, with the sign of input 1's; all if that is 0
-  sum             w -> w      writes the sum of all words so far, modulo 2^64
-  difference      w -> w      writes each word minus the one before, 0 at first
-  average N       w -> w      writes the mean of the last N words, rounded down, signed, 0 before the first; N from 1 to 5
-  counter         f -> w      writes how many flags were true so far
-  edge            f -> f      writes whether the flag is true and the one before is not, false before the first
-  noise SEED      -> w        writes the words of the generator SplitMix64 for ever
-  gate            w f -> w    writes the words whose flag is true
-Signed means two's complement: from 2^63 on, a word stands for itself minus 2^64. V of constant, hold and prefix,
-K of scale and offset, A of gain, and LO and HI of clip may be negative.
-A kind may be a formula, such as \"y = y + (in - y) / 8; out = y\"; hox kinds formula tells how.
-";
-
 /// How formulas are written, for `hox kinds formula`.
 pub const FORMULA: &str = "\
 A process whose kind is a formula, without args, goes in rounds: it reads each of its inputs once, assigns, and writes

@@ -8,8 +8,9 @@ use Rattle.kpn_picture.specs.declared.looks.Direction.{Direction}
 use Rattle.hox_network.specs.declared.request.Request.{Request}
 use Rattle.hox_network.specs.declared.request.Fault.{Fault}
 use Rattle.hox_network.specs.declared.request.Fault.TheVariants.{Memory}
+use Rattle.kpn_front.proofs.Loaded.{says_known}
+use Rattle.hox_network.specs.Meant.{LoadsMeant}
 use Rattle.hox_network.specs.Preparing.{GivesLoaded, GivesNet, IsFault, Serves}
-use Rattle.hox_network.proofs.Meant.{loads_known}
 use Rattle.hox_network.proofs.Served.{serves_on}
 use Rattle.hox_draw.specs.Titles.{AreTitles}
 use Rattle.hox_draw.specs.Drawing.{Draws, GivesPicture}
@@ -48,7 +49,7 @@ pub of_source : {X : Type 0} {named : List ℕ → Option (ℕ × ℕ)} {signatu
     → IfSome known (λ t. text ≡ t) → after ≡ before → Serves named signature gives (Some text) false false result → Serves named signature gives known before after result
 of_source {X} {named} {signature} {gives} known before after text result same unfailed served = record {
   loaded = served.loaded;
-  loads = λ fresh. loads_known named signature after known text served.loaded same (unfailed ∙ fresh) (served.loads refl);
+  loads = λ fresh. says_known (LoadsMeant named signature) after known text served.loaded same (unfailed ∙ fresh) (served.loads refl);
   failed = λ fresh failed. let bad : true ≡ false = sym failed ∙ (unfailed ∙ fresh) in cc;
   comes = served.comes;
 }

@@ -39,10 +39,7 @@ pub fn draw<K: Computes + Titled, I: Source, R: Wait + Clock + Threads + Sync>(
 {
     match read_text(alloc, source) {
         Ok(text) => draw_text::<K, R>(rt, alloc, wanted, text.as_slice()),
-        Err(fault) => {
-            let text = Vec::new(alloc);
-            Err(Fault::Description(Refused { fault, text }))
-        }
+        Err(fault) => Err(Fault::Description(Refused::unread(alloc, fault))),
     }
 }
 

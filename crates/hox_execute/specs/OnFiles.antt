@@ -37,7 +37,7 @@ use Rattle.hox_files.specs.Files.{Clashing, Contents, Effect, Effects, Texts, te
 use Rattle.hox_files.specs.Requests.{ServesFile, Want, want_of}
 use Rattle.hox_files.specs.Served.{ServesNamed}
 use Rattle.hox_execute.specs.declared.running.Ran.{Ran}
-use Rattle.hox_execute.specs.declared.serving.Executed.{Executed}
+use Rattle.hox_execute.specs.declared.serving.ServedCommand.{ServedCommand}
 use Rattle.hox_execute.specs.declared.streaming.StreamEnds.{StreamEnds}
 use Rattle.hox_execute.specs.declared.streaming.Streamed.{Streamed}
 use Rattle.hox_execute.specs.declared.streaming.StreamStop.{StreamStop}
@@ -179,10 +179,10 @@ module _ {K S I O : Type 0} (kinds : KindsOf K) (system : FileSystemOf S I O) (o
     abbrev DrawEnds : Titles → DrawChoice → Result ExitStatus Stop → Type 0
     DrawEnds = EndsDraw (family kinds) kinds.named kinds.signature contents clash steady before after
 
-    abbrev AnyEnds : Titles → Choice → Result Executed Stop → Type 0
+    abbrev AnyEnds : Titles → Choice → Result ServedCommand Stop → Type 0
     AnyEnds = EndsChoice (family kinds) kinds.named kinds.signature contents clash steady before after
 
-    abbrev ServesBy : Titles → Texts → Executed → Type 0
+    abbrev ServesBy : Titles → Texts → ServedCommand → Type 0
     ServesBy = Serves (family kinds) kinds.named kinds.signature contents clash steady before after
 
   -- how a run ends
@@ -196,17 +196,17 @@ module _ {K S I O : Type 0} (kinds : KindsOf K) (system : FileSystemOf S I O) (o
       DrawEnds (system.contents old) (system.clash old) (system.is_steady old) (system.effects old) (system.effects new)
 
   -- how any command ends
-  abbrev pub EndsChoiceOn : Titles → Choice → Result Executed Stop → Type 0
+  abbrev pub EndsChoiceOn : Titles → Choice → Result ServedCommand Stop → Type 0
   EndsChoiceOn =
       AnyEnds (system.contents old) (system.clash old) (system.is_steady old) (system.effects old) (system.effects new)
 
   -- these words are carried out
-  abbrev ServesIn : Titles → Texts → Executed → Type 0
+  abbrev ServesIn : Titles → Texts → ServedCommand → Type 0
   ServesIn =
       ServesBy (system.contents old) (system.clash old) (system.is_steady old) (system.effects old) (system.effects new)
 
   -- the arguments are carried out
-  abbrev pub ServesOn : Titles → List (Bor (List ℕ)) → Executed → Type 0
+  abbrev pub ServesOn : Titles → List (Bor (List ℕ)) → ServedCommand → Type 0
   ServesOn title arguments outcome = ServesIn title (texts_in arguments) outcome
 
 -- a file system, and what is seen of a file that is read

@@ -12,8 +12,8 @@ use Rattle.hox_args.specs.declared.arguments.DrawChoice.{DrawChoice}
 use Rattle.hox_args.specs.declared.arguments.RunChoice.{RunChoice}
 use Rattle.hox_args.specs.HoxChoices.{IsHoxChoice, IsHoxFault}
 use Rattle.hox_execute.specs.declared.running.Ran.{Ran as RanV}
-use Rattle.hox_execute.specs.declared.serving.Executed.{Executed}
-use Rattle.hox_execute.specs.declared.serving.Executed.TheVariants.{Exits, Ran, Streams, Lists}
+use Rattle.hox_execute.specs.declared.serving.ServedCommand.{ServedCommand}
+use Rattle.hox_execute.specs.declared.serving.ServedCommand.TheVariants.{Exits, Ran, Streams, Lists}
 use Rattle.hox_files.specs.declared.stops.Stop.{Stop}
 use Rattle.hox_files.specs.declared.stops.Stop.TheVariants.{Clash, Format, InputTwice, Memory, NoPair, Refused, Unread, Words}
 use Rattle.hox_execute.specs.Commands.{Ends, HasChecked, HasDrawn, HasRun, IsStop}
@@ -123,7 +123,7 @@ module _ (kinds : Family) (named : KindNames) (signature : Signatures) where
           ChecksWant (want_of_check check) (texts_in check.tokens.items) status check.expanded
 
       -- the choice is carried out, or left as a stream or a list, with nothing done
-      abbrev pub Does : Choice → Executed → Type 0
+      abbrev pub Does : Choice → ServedCommand → Type 0
       Does (Check check) (Exits status) = ChecksChoice check status
       Does (Run run) (Ran ran) = RunsChoice run ran
       Does (Draw draw) (Exits status) = DrawsChoice draw status
@@ -132,7 +132,7 @@ module _ (kinds : Family) (named : KindNames) (signature : Signatures) where
       Does _ _ = ⊥
 
       -- the arguments are a choice, and it is carried out
-      pub record Serves (words : Texts) (outcome : Executed) : Type 0 where
+      pub record Serves (words : Texts) (outcome : ServedCommand) : Type 0 where
         pub choice : Choice
         pub chosen : IsHoxChoice words choice
         pub does : Does choice outcome
@@ -142,13 +142,13 @@ module _ (kinds : Family) (named : KindNames) (signature : Signatures) where
       EndsDraw draw result =
           Ends (DrawsChoice draw) (IsDrawStop named signature contents clash draw) before after result
 
-      abbrev pub EndsChoice : Choice → Result Executed Stop → Type 0
+      abbrev pub EndsChoice : Choice → Result ServedCommand Stop → Type 0
       EndsChoice choice result = Ends (Does choice) (IsStopIn named signature contents clash choice) before after result
 
 -- the program exits with the status that was come to
-abbrev pub ExitsWith : Result ExitStatus Stop → Executed → Type 0
+abbrev pub ExitsWith : Result ExitStatus Stop → ServedCommand → Type 0
 ExitsWith done outcome = (status : ExitStatus) × (outcome ≡ Exits status) × (done ≡ Ok status)
 
 -- the outcome is the run that was come to
-abbrev pub IsRanAs : Result RanV Stop → Executed → Type 0
+abbrev pub IsRanAs : Result RanV Stop → ServedCommand → Type 0
 IsRanAs done outcome = (ran : RanV) × (outcome ≡ Ran ran) × (done ≡ Ok ran)

@@ -1,5 +1,5 @@
 //! The program `hox` as functions from its arguments and the bytes of files to all that it writes, and the exit
-//! status: `execute`, which leaves streams and lists of kinds to its caller, and `stream`.
+//! status: `serve`, which leaves streams and lists of kinds to its caller, and `stream`.
 #![tactic(auto)]
 
 mod checking;
@@ -19,6 +19,6 @@ pub use hox_files::reading::{Asked, ReadError};
 pub use hox_files::stops::{RefusedRequest, Stop};
 pub use hox_files::uses::{Role, Use};
 pub use running::Ran;
-pub use serving::{Executed, execute};
+pub use serving::{ServedCommand, serve};
 pub use streaming::{StreamEnds, StreamStop, Streamed, stream};
 pub use texts::FileNote;

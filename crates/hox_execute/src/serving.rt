@@ -1,4 +1,4 @@
-//! Executes the arguments.
+//! Serves the arguments.
 ghost use Rattle.std.specs.Prelude.{◌≡◌, IfOk, IfErr, MatchResult, OnErr};
 ghost use Rattle.hox_execute.specs.OnFiles.{EndsChoiceOn, ServesOn, StopsOn};
 ghost use Rattle.hox_execute.specs.Program.{ExitsWith, IsRanAs};
@@ -18,9 +18,9 @@ use std::rt::Clock;
 use std::sync::Wait;
 use std::thread::Threads;
 
-/// What `execute` did, or leaves to do.
+/// What `serve` did, or leaves to do.
 #[derive(Drop)]
-pub enum Executed<'a> {
+pub enum ServedCommand<'a> {
     /// All is done. The program exits with this status: 0, or 7 if a write failed.
     Exits(ExitStatus),
     /// A network was run. The program exits with its status: that of the verdict, or 2 if a token does not
@@ -32,12 +32,12 @@ pub enum Executed<'a> {
     Lists(KindsChoice<'a>),
 }
 
-/// Executes the arguments; the first is the program's name. With a family of kinds, checks, runs or draws the
+/// Does what the arguments ask for; the first is the program's name. With a family of kinds, checks, runs or draws the
 /// network of a description on the tokens of files, and writes the report and the streams. `progress`
 /// receives the progress of a run, if the arguments ask for it or it wants it.
 ///
 /// Errors: see [`Stop`]. Then nothing is written.
-pub fn execute<
+pub fn serve<
     'a,
     K: Computes + Titled,
     S: FileSystem,
@@ -49,18 +49,18 @@ pub fn execute<
     files: &mut S,
     arguments: &'a [&'a str],
     progress: &P,
-) -> Result<Executed<'a>, Stop<'a>>
+) -> Result<ServedCommand<'a>, Stop<'a>>
     ensures done { IfOk result (ServesOn K.Kinds S.FileSystem files.old files.new K.title arguments.entry.now) }
     ensures stop { IfErr result (StopsOn K.Kinds S.FileSystem files.old arguments.entry.now) }
     ensures untouched { OnErr result (S.effects files.new ≡ S.effects files.old) }
 {
     match read_words(alloc, arguments) {
-        Ok(choice) => execute_choice::<K, S, R, P>(rt, alloc, files, choice, progress),
+        Ok(choice) => serve_choice::<K, S, R, P>(rt, alloc, files, choice, progress),
         Err(fault) => Err(Stop::Words(fault)),
     }
 }
 
-fn execute_choice<
+fn serve_choice<
     'a,
     K: Computes + Titled,
     S: FileSystem,
@@ -72,7 +72,7 @@ fn execute_choice<
     files: &mut S,
     choice: Choice<'a>,
     progress: &P,
-) -> Result<Executed<'a>, Stop<'a>>
+) -> Result<ServedCommand<'a>, Stop<'a>>
     ensures { EndsChoiceOn K.Kinds S.FileSystem files.old files.new K.title choice.entry result }
 {
     match choice {
@@ -83,25 +83,25 @@ fn execute_choice<
         }
         Choice::Run(chosen) => has_run(run::<K, S, R, P>(rt, alloc, files, &chosen, progress)),
         Choice::Draw(chosen) => exits(draw::<K, S, R>(rt, alloc, files, &chosen)),
-        Choice::Stream(stream) => Ok(Executed::Streams(stream)),
-        Choice::Kinds(kinds) => Ok(Executed::Lists(kinds)),
+        Choice::Stream(stream) => Ok(ServedCommand::Streams(stream)),
+        Choice::Kinds(kinds) => Ok(ServedCommand::Lists(kinds)),
     }
 }
 
-fn exits<'a>(done: Result<ExitStatus, Stop<'a>>) -> Result<Executed<'a>, Stop<'a>>
+fn exits<'a>(done: Result<ExitStatus, Stop<'a>>) -> Result<ServedCommand<'a>, Stop<'a>>
     ensures { MatchResult result (ExitsWith done.entry) (λ stop. done.entry ≡ Err stop) }
 {
     match done {
-        Ok(status) => Ok(Executed::Exits(status)),
+        Ok(status) => Ok(ServedCommand::Exits(status)),
         Err(stop) => Err(stop),
     }
 }
 
-fn has_run<'a>(done: Result<Ran<'a>, Stop<'a>>) -> Result<Executed<'a>, Stop<'a>>
+fn has_run<'a>(done: Result<Ran<'a>, Stop<'a>>) -> Result<ServedCommand<'a>, Stop<'a>>
     ensures { MatchResult result (IsRanAs done.entry) (λ stop. done.entry ≡ Err stop) }
 {
     match done {
-        Ok(ran) => Ok(Executed::Ran(ran)),
+        Ok(ran) => Ok(ServedCommand::Ran(ran)),
         Err(stop) => Err(stop),
     }
 }

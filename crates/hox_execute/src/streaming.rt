@@ -279,11 +279,7 @@ fn text_in<S: FileSystem>(alloc: Global, files: &S, name: &str) -> Result<Vec<u8
 fn unread_text(alloc: Global, error: Option<io::Error>) -> Unopened
     ensures { IsUnreadText result }
 {
-    let refused = Refused {
-        fault: NetFault::Input,
-        text: Vec::new(alloc),
-    };
-    Unopened::Refused(refused, error)
+    Unopened::Refused(Refused::unread(alloc, NetFault::Input), error)
 }
 
 fn channels_in<K: Kinds>(alloc: Global, text: &[u8]) -> Result<Listed<Text>, Unopened>

@@ -97,10 +97,7 @@ pub fn unopened(alloc: Global, error: io::Error) -> Unserved
     ensures { refusal result.fault ≡ Some NetFault.Input }
 {
     Unserved {
-        fault: Fault::Description(Refused {
-            fault: NetFault::Input,
-            text: Vec::new(alloc),
-        }),
+        fault: Fault::Description(Refused::unread(alloc, NetFault::Input)),
         error: Some(error),
     }
 }

@@ -1,29 +1,22 @@
 -- A text whose sketch is read as it is meant.
-use Rattle.std.proofs.Common.{◌≡◌, ◌≢◌, ◌≤◌, ℕ, Bool, false, length, List, [], ◌∷◌, Option, Some, None, IfSome, Result, Err, IfOk, IfErr, refl, sym, ◌∙◌}
+use Rattle.std.proofs.Common.{◌≡◌, ◌≢◌, ◌≤◌, ◌⊎◌, inl, inr, ap, ℕ, Bool, true, false, length, List, [], ◌∷◌, Option, Some, None, IfSome, Result, Ok, Err, IfOk, IfErr, MatchResult, refl, sym, ◌∙◌}
 use Rattle.std.proofs.lemmas.Option.{same_Some}
 use Rattle.std.specs.List.{AllZip}
 use Rattle.kpn_model.specs.declared.kinds.Card.{Card}
 use Rattle.kpn_model.specs.declared.kinds.Signature.{Signature}
 use Rattle.kpn_model.specs.Network.{Network}
 use Rattle.kpn_sketch.specs.declared.fault.NetFault.{NetFault}
-use Rattle.kpn_sketch.specs.declared.fault.NetFault.TheVariants.{NotToml, Keys, Memory}
+use Rattle.kpn_sketch.specs.declared.fault.NetFault.TheVariants.{NotToml, Keys, Memory, Input}
 use Rattle.kpn_sketch.specs.declared.sketch.ProcessSketch.{ProcessSketch}
 use Rattle.kpn_sketch.specs.declared.sketch.Delayed.{Delayed}
 use Rattle.kpn_sketch.specs.declared.sketch.Sketch.{Sketch}
 use Rattle.kpn_sketch.specs.Description.{DescribesDelayed, IsDelayedFault, delayed_of}
 use Rattle.kpn_net.specs.Faults.{first_fault}
 use Rattle.kpn_net.specs.Sketched.{net_of}
-use Rattle.kpn_front.specs.Loading.{IsLoadFault, LoadsChanged, longest}
+use Rattle.kpn_front.specs.Loading.{CannotBeRead, IsChecked, IsLoadFault, LoadsChanged, LoadsFrom, ReadsFrom, longest}
 use Rattle.kpn_front.proofs.Loaded.{loads_from}
 use Rattle.hox_network.specs.Formulas.{IsWritten, stays, IsWrittenOut, WritesOut}
 use Rattle.hox_network.specs.Meant.{IsSketchOf, LoadsMeant, as_meant}
-
--- what is loaded of a text is loaded of the source that had it, if no read failed
-pub loads_known :
-    (named : List ℕ → Option (ℕ × ℕ)) (signature : Card → Option Signature) (failed : Bool) (known : Option (List ℕ)) (text : List ℕ) (r : Result Network NetFault)
-    → IfSome known (λ t. text ≡ t) → failed ≡ false → LoadsMeant named signature false text r → IfSome known (λ t. LoadsMeant named signature failed t r)
-loads_known named signature failed None text r same e h = tt
-loads_known named signature failed (Some t) text r same e h = rw (← same, e) h
 
 -- a text describes one thing
 pub one_description : (text : List ℕ) (d e : Delayed) → DescribesDelayed text d → DescribesDelayed text e → d ≡ e
@@ -70,8 +63,54 @@ loads_sketch named signature text sketch r short of_text ok fault =
           (refl, short) of_text.describes (rw of_text.meant at ok) (rw of_text.meant at fault);
     }
 
+-- what is made of the sketch that a text means, or of its fault, is loaded
+pub loads_checked :
+    (named : List ℕ → Option (ℕ × ℕ)) (signature : Card → Option Signature) (text : List ℕ) (found : Result Sketch NetFault) (r : Result Network NetFault) → length text ≤ longest
+    → MatchResult found (IsSketchOf named signature text) (IsDelayedFault text) → IsChecked named signature found r → LoadsMeant named signature false text r
+loads_checked named signature text (Ok sketch) (Ok n) short of_text checked = loads_sketch named signature text sketch (Ok n) short of_text checked tt
+loads_checked named signature text (Ok sketch) (Err e) short of_text checked = loads_sketch named signature text sketch (Err e) short of_text tt checked
+loads_checked named signature text (Err e) r short is checked = rw checked (unread_fault named signature text e short is)
+
 -- whatever the source had left, if known
 pub known_unread : (named : List ℕ → Option (ℕ × ℕ)) (signature : Card → Option Signature) (failed : Bool) (known : Option (List ℕ)) (r : Result Network NetFault)
     → IfSome known (λ text. LoadsChanged delayed_of (as_meant named signature text) named signature failed text r) → IfSome known (λ text. LoadsMeant named signature failed text r)
 known_unread named signature failed None r h = tt
 known_unread named signature failed (Some text) r h = loads_unread named signature failed text r h
+
+module _ (named : List ℕ → Option (ℕ × ℕ)) (signature : Card → Option Signature) (failed : Bool) where
+  -- a text that can't be read is refused for that
+  unreadable : (known : Option (List ℕ)) → CannotBeRead failed known → IfSome known (λ text. LoadsMeant named signature failed text (Err Input))
+  unreadable None cannot = tt
+  unreadable (Some text) cannot = loads_unread named signature failed text (Err Input) cannot
+
+  -- or memory was refused
+  unremembered : (known : Option (List ℕ)) → failed ≡ false → IfSome known (λ text. LoadsMeant named signature failed text (Err Memory))
+  unremembered None unfailed = tt
+  unremembered (Some text) unfailed = loads_unread named signature failed text (Err Memory) unfailed
+
+-- a result has one fault
+pub same_fault : {T : Type 0} (r : Result T NetFault) (e f : NetFault) → r ≡ Err e → r ≡ Err f → e ≡ f
+same_fault (Ok x) e f one other = cc
+same_fault (Err x) e f one other =
+    let same : x ≡ e = cc in
+    let also : x ≡ f = cc in
+    sym same ∙ also
+
+-- the fault of a source that could not be read to its end is loaded of it
+pub unread_source :
+    {S : Type 0} (named : List ℕ → Option (ℕ × ℕ)) (signature : Card → Option Signature) (is_steady has_failed : S → Bool) (remaining : S → Option (List ℕ)) (before after : S) (e : NetFault)
+    → (e ≡ Input → CannotBeRead (has_failed after) (remaining before)) → (e ≡ Input) ⊎ (e ≡ Memory) → (e ≢ Input → has_failed after ≡ has_failed before)
+    → ReadsFrom is_steady has_failed remaining before after → LoadsFrom (LoadsMeant named signature) is_steady has_failed remaining before after (Err e)
+unread_source named signature is_steady has_failed remaining before after e cannot (inl input) kept source =
+    record {
+      loads = λ fresh. rw input (unreadable named signature (has_failed after) (remaining before) (cannot input));
+      failed = λ fresh failed. ap Err input;
+      source = source;
+    }
+unread_source named signature is_steady has_failed remaining before after e cannot (inr memory) kept source =
+    let same = kept (λ input. let bad : Memory ≡ Input = sym memory ∙ input in cc) in
+    record {
+      loads = λ fresh. rw memory (unremembered named signature (has_failed after) (remaining before) (same ∙ fresh));
+      failed = λ fresh failed. let bad : false ≡ true = sym (same ∙ fresh) ∙ failed in cc;
+      source = source;
+    }

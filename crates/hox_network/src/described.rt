@@ -11,9 +11,9 @@ use crate::delays::with_delays;
 use crate::formulas::with_formulas;
 use crate::signs::with_signs;
 use crate::sorts::sort_by_ports;
-use kpn_front::{Refused, Source, read_text};
+use kpn_front::{Refused, Source, net_or_refuse, read_text};
 use kpn_model::{Kinds, Listed};
-use kpn_net::{ChannelSketch, Check, Delay, Delayed, Net, NetFault, Sketch, read_delayed};
+use kpn_net::{ChannelSketch, Delay, Delayed, Net, NetFault, Sketch, read_delayed};
 use std::alloc::{AllocError, Global};
 
 /// Reads a description to its end, and makes its network. A channel gets the sort of its two ports if they agree,
@@ -28,21 +28,9 @@ use std::alloc::{AllocError, Global};
 pub fn load_by_ports<K: Kinds, S: Source>(alloc: Global, source: &mut S) -> Result<Net<K>, Refused>
     ensures { LoadsSource K.Kinds S.Source source.old source.new (without_text result) }
 {
-    let text = match read_text(alloc, source) {
-        Ok(text) => text,
-        Err(fault) => {
-            let text = Vec::new(alloc);
-            return Err(Refused { fault, text });
-        }
-    };
-    let meant = match sketch_of_text::<K>(alloc, text.as_slice()) {
-        Ok(meant) => meant,
-        Err(fault) => return Err(Refused { fault, text }),
-    };
-    match Net::check(alloc, &meant) {
-        Ok(net) => Ok(net),
-        Err(fault) => Err(Refused { fault, text }),
-    }
+    let text = read_text(alloc, source).map_err(|fault| Refused::unread(alloc, fault))?;
+    let sketch = sketch_of_text::<K>(alloc, text.as_slice());
+    net_or_refuse(alloc, text, sketch)
 }
 
 /// Returns the sketch of a text as `load_by_ports` completes it; `None` if the text describes none, or out of memory.

@@ -11,7 +11,7 @@ use Rattle.kpn_model.specs.declared.token.Token.{Token}
 use Rattle.kpn_model.specs.Valid.{IsOfSort}
 use Rattle.kpn_tokens.specs.declared.layouts.Layout.{Layout}
 use Rattle.hox_stream.specs.declared.cutting.FirstRecord.TheVariants.{Record}
-use Rattle.hox_stream.specs.Cutting.{IsNext, Leads, Passes}
+use Rattle.hox_stream.specs.Cutting.{IsFirstRecord, Leads, Passes}
 use Rattle.hox_stream.specs.Gathering.{Gathers, LeadsOn, end_of}
 use Rattle.hox_stream.specs.Ports.{IsNotRead, Takes}
 use Rattle.hox_stream.specs.Views.{InletView}
@@ -36,7 +36,7 @@ module _ (layout : Layout) (sort : Sort) (text : List ℕ) where
       leads (suc k) few = absurd (omega (arith, few))
 
   -- the record behind the first ones says one more
-  leads_more : (end used : ℕ) (tokens : List Token) (token : Token) → LeadsOn layout sort text (drop end text) tokens → IsNext layout sort (drop end text) false (Record (Some token) used)
+  leads_more : (end used : ℕ) (tokens : List Token) (token : Token) → LeadsOn layout sort text (drop end text) tokens → IsFirstRecord layout sort (drop end text) false (Record (Some token) used)
       → LeadsOn layout sort text (drop (end + used) text) (tokens ++ token ∷ [])
   leads_more end used tokens token first next on =
       let step : Leads layout sort (drop end text ++ on) (drop used (drop end text) ++ on) (token ∷ []) 1 = passes_record layout sort (drop end text) (Some on) false (Some token) used next (λ e. cc) in
@@ -46,7 +46,7 @@ module _ (layout : Layout) (sort : Sort) (text : List ℕ) where
       (subst (λ l. Leads layout sort (text ++ on) (l ++ on) (tokens ++ token ∷ []) (length tokens + 1)) (drop-drop used end text) both)
 
   module _ (tokens : List Token) (ends : List ℕ) (count end used : ℕ) (token : Token) (h : Gathers layout sort text tokens ends count) (at : end ≡ end_of ends count)
-      (room : count < length tokens) (places : count < length ends) (next : IsNext layout sort (drop end text) false (Record (Some token) used)) (of : IsOfSort sort token) where
+      (room : count < length tokens) (places : count < length ends) (next : IsFirstRecord layout sort (drop end text) false (Record (Some token) used)) (of : IsOfSort sort token) where
     pub new_end : end_of (set ends count (end + used)) (count + 1) ≡ end + used
     new_end = let one : count + 1 ≡ suc count = omega arith in ap (λ n. end_of (set ends count (end + used)) n) one ∙ get_or-set_same ends count (end + used) 0 places
 

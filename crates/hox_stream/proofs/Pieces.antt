@@ -13,7 +13,7 @@ use Rattle.kpn_tokens.specs.Records.{Begin, Fails, IsEnded, IsWhole, Say, first,
 use Rattle.kpn_tokens.specs.Rows.{is_line_feed}
 use Rattle.kpn_tokens.specs.Samples.{frame_size}
 use Rattle.hox_stream.specs.declared.cutting.FirstRecord.TheVariants.{Record}
-use Rattle.hox_stream.specs.Cutting.{IsNext, Leads, Passes, has_record}
+use Rattle.hox_stream.specs.Cutting.{IsFirstRecord, Leads, Passes, has_record}
 
 -- ---- whether a record is there to its end
 
@@ -123,7 +123,7 @@ module _ (layout : Layout) (sort : Sort) where
 
   -- the next record was taken of what was kept
   pub passes_record :
-      (kept : List ℕ) (remaining : Option (List ℕ)) (last : Bool) (said : Option Token) (used : ℕ) → IsNext layout sort kept last (Record said used) → (last ≡ true → IsAtEnd remaining)
+      (kept : List ℕ) (remaining : Option (List ℕ)) (last : Bool) (said : Option Token) (used : ℕ) → IsFirstRecord layout sort kept last (Record said used) → (last ≡ true → IsAtEnd remaining)
       → Passes layout sort (prepend_known kept remaining) (prepend_known (drop used kept) remaining) (listed said) 1
   passes_record kept None last said used is end = tt
   passes_record kept (Some left) last said used is end =

@@ -10,7 +10,7 @@ use Rattle.kpn_model.specs.declared.token.Sort.{Sort}
 use Rattle.kpn_tokens.specs.declared.layouts.Layout.{Layout}
 use Rattle.kpn_tokens.specs.Records.{listed, record_text}
 use Rattle.hox_stream.specs.declared.cutting.FirstRecord.TheVariants.{Record}
-use Rattle.hox_stream.specs.Cutting.{IsNext, Passes}
+use Rattle.hox_stream.specs.Cutting.{IsFirstRecord, Passes}
 use Rattle.hox_stream.specs.Ports.{CountsOn, ReadsOn, Takes, Writes, are_written, clipped_of, written_of}
 use Rattle.hox_stream.specs.Views.{InletView, OutletView, unread}
 use Rattle.hox_stream.proofs.Counted.{counts_as, counts_both, counts_lists, counts_none}
@@ -37,7 +37,7 @@ takes_both p q r ts us x y = record {
 abbrev pub passed : InletView → ℕ → Option Token → InletView
 passed p used said = record p { kept = drop used p.kept; records = u64_saturate (p.records + 1); tokens = u64_saturate (p.tokens + length (listed said)) }
 
-takes_passed : (p : InletView) (used : ℕ) (said : Option Token) → IsNext p.layout p.sort p.kept p.is_over (Record said used) → (p.is_over ≡ true → IsAtEnd p.remaining) → Takes p (passed p used said) (listed said)
+takes_passed : (p : InletView) (used : ℕ) (said : Option Token) → IsFirstRecord p.layout p.sort p.kept p.is_over (Record said used) → (p.is_over ≡ true → IsAtEnd p.remaining) → Takes p (passed p used said) (listed said)
 takes_passed p used said next end = record {
   channel = refl;
   layout = refl;
@@ -49,7 +49,7 @@ takes_passed p used said next end = record {
   held = λ h. omega (arith, length-drop used p.kept);
 }
 
-pub takes_record : (p q : InletView) (used : ℕ) (said : Option Token) → IsNext p.layout p.sort p.kept p.is_over (Record said used) → (p.is_over ≡ true → IsAtEnd p.remaining) → q ≡ passed p used said → Takes p q (listed said)
+pub takes_record : (p q : InletView) (used : ℕ) (said : Option Token) → IsFirstRecord p.layout p.sort p.kept p.is_over (Record said used) → (p.is_over ≡ true → IsAtEnd p.remaining) → q ≡ passed p used said → Takes p q (listed said)
 takes_record p q used said next end e = subst (λ (r : InletView). Takes p r (listed said)) (sym e) (takes_passed p used said next end)
 
 pub takes_read : (p q : InletView) → ReadsOn p q → Takes p q []

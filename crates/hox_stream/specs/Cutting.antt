@@ -29,17 +29,18 @@ IsRefused layout sort bytes last (Fault fault) =
 IsRefused layout sort bytes last TooLong = 4096 < length (first layout bytes)
 
 -- what these bytes begin with: a record, a rejected one, or no record yet; or out of memory
-abbrev pub IsNext : Layout → Sort → List ℕ → Bool → FirstRecord → Type 0
-IsNext layout sort bytes last (Record said used) =
+abbrev pub IsFirstRecord : Layout → Sort → List ℕ → Bool → FirstRecord → Type 0
+IsFirstRecord layout sort bytes last (Record said used) =
     FirstSays layout sort bytes said × (0 < length bytes) × (drop used bytes ≡ rest layout bytes)
     × (used ≤ length bytes) × IsWhole layout bytes last × (length (first layout bytes) ≤ 4096)
-IsNext layout sort bytes last (Refused refusal) = IsRefused layout sort bytes last refusal
-IsNext layout sort bytes last Wanting = (IsEnded layout bytes → ⊥) × (length bytes ≤ 4096) × (last ≡ true → bytes ≡ [])
-IsNext layout sort bytes last Memory = 0 < length bytes
+IsFirstRecord layout sort bytes last (Refused refusal) = IsRefused layout sort bytes last refusal
+IsFirstRecord layout sort bytes last Wanting =
+    (IsEnded layout bytes → ⊥) × (length bytes ≤ 4096) × (last ≡ true → bytes ≡ [])
+IsFirstRecord layout sort bytes last Memory = 0 < length bytes
 
 -- the first record has this token, of the sort, and this many bytes, whatever comes after it
-pub record IsTold (layout : Layout) (sort : Sort) (bytes : List ℕ) (told : FirstToken) : Type 0 where
-  pub next : (last : Bool) → IsNext layout sort bytes last (Record (Some told.token) told.used)
+pub record IsFirstToken (layout : Layout) (sort : Sort) (bytes : List ℕ) (told : FirstToken) : Type 0 where
+  pub next : (last : Bool) → IsFirstRecord layout sort bytes last (Record (Some told.token) told.used)
   pub sorted : IsOfSort sort told.token
 
 -- the first `records` records of a text are these tokens, and `left` follows them

@@ -14,7 +14,7 @@ use Rattle.hox_stream.specs.declared.outlet.WriteFault.{WriteFault}
 use Rattle.hox_stream.specs.declared.outlet.WriteFault.TheVariants.{Failed, Misfit, Memory}
 use Rattle.hox_stream.specs.declared.cutting.FirstRecord.{FirstRecord}
 use Rattle.hox_stream.specs.declared.cutting.Refusal.{Refusal}
-use Rattle.hox_stream.specs.Cutting.{IsNext, IsRefused, Passes, has_record}
+use Rattle.hox_stream.specs.Cutting.{IsFirstRecord, IsRefused, Passes, has_record}
 use Rattle.hox_stream.specs.Views.{InletView, OutletView, unread}
 
 -- m is n + k; a count stays at 2 ^ 64 - 1 once it is there
@@ -116,7 +116,7 @@ pub record IsNotRead (p q : InletView) : Type 0 where
 
 -- this comes next of a source; at its end there is no more
 pub record IsNextIn (p : InletView) (found : FirstRecord) : Type 0 where
-  pub next : IsNext p.layout p.sort p.kept p.is_over found
+  pub next : IsFirstRecord p.layout p.sort p.kept p.is_over found
   pub at_end : p.is_over ≡ true → IsAtEnd p.remaining
 
 -- the source was read once, and then only records were taken

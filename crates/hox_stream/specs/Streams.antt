@@ -235,7 +235,8 @@ module _ (kinds : Family) (s t : FlowView) where
     pub none : result ≡ Ok false → t.state ≡ s.state
     pub fault : IfErr result (IsTableFault q)
 
-  -- tokens were moved to the columns of all tables, which follow `first` sinks, or the stream ends; nothing else happened
+  -- tokens were moved to the columns of all tables, which follow `first` sinks, or the stream ends; nothing else
+  -- happened
   pub record TellsTables (before after : List TableView) (first : ℕ) (result : Result Bool StreamFinish) : Type 0 where
     pub streams : (ins : List InletView) (sinks : List OutletView)
         → Streams kinds s t ins ins (outs sinks before) (outs sinks after)

@@ -1,7 +1,7 @@
 //! Cuts text that arrives in pieces into records.
 ghost use Rattle.std.specs.Prelude.{◌≡◌, IfSome, Ok, Some};
 ghost use Rattle.kpn_tokens.specs.declared.layouts.Layout.TheVariants as layouts;
-ghost use Rattle.hox_stream.specs.Cutting.{IsNext, IsTold};
+ghost use Rattle.hox_stream.specs.Cutting.{IsFirstRecord, IsFirstToken};
 
 use kpn_tokens::{
     Decimals, Frame, Layout, RecordFault, Sort, Token, first_line, record_in, token_of_frame,
@@ -41,7 +41,7 @@ pub(crate) struct FirstToken {
 /// Returns the token of the first record, if that is a whole line or frame with one; see [`next_of`] for the others.
 #[inline(always)]
 pub(crate) fn told_by(layout: &Layout, sort: Sort, bytes: &[u8]) -> Option<FirstToken>
-    ensures { IfSome result (IsTold layout.now sort bytes.now) }
+    ensures { IfSome result (IsFirstToken layout.now sort bytes.now) }
 {
     match layout {
         Layout::Lines(decimals) => told_by_line(*decimals, sort, bytes),
@@ -52,7 +52,7 @@ pub(crate) fn told_by(layout: &Layout, sort: Sort, bytes: &[u8]) -> Option<First
 
 #[inline(always)]
 fn told_by_line(decimals: Decimals, sort: Sort, bytes: &[u8]) -> Option<FirstToken>
-    ensures { IfSome result (IsTold (layouts.Lines decimals) sort bytes.now) }
+    ensures { IfSome result (IsFirstToken (layouts.Lines decimals) sort bytes.now) }
 {
     match first_line(decimals, sort, bytes) {
         Some(line) if line.length <= LONGEST_RECORD => as_told(line.said, line.length + 1),
@@ -62,7 +62,7 @@ fn told_by_line(decimals: Decimals, sort: Sort, bytes: &[u8]) -> Option<FirstTok
 
 #[inline(always)]
 fn told_by_frame(frame: &Frame, sort: Sort, bytes: &[u8]) -> Option<FirstToken>
-    ensures { IfSome result (IsTold (layouts.Frames frame.now) sort bytes.now) }
+    ensures { IfSome result (IsFirstToken (layouts.Frames frame.now) sort bytes.now) }
 {
     let size = frame.size();
     if bytes.is_empty() || bytes.len() < size || size > LONGEST_RECORD {
@@ -90,7 +90,7 @@ pub(crate) fn next_of(
     bytes: &[u8],
     is_last: bool,
 ) -> FirstRecord
-    ensures { IsNext layout sort bytes.now is_last result }
+    ensures { IsFirstRecord layout sort bytes.now is_last result }
 {
     if let Some(told) = told_by(&layout, sort, bytes) {
         return FirstRecord::Record {

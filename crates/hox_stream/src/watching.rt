@@ -25,7 +25,7 @@ pub struct Fill<'a> {
 /// Sees how a stream goes, whose result doesn't depend on it.
 ///
 /// ```text
-/// impl<'a, R: Clock + Eprint> Onlooker for StreamLine<'a, R> {
+/// impl<'a, R: Clock + Eprint> Onlooker for StreamProgress<'a, R> {
 ///     fn is_due(&self) -> bool {
 ///         (self.has_line || self.has_table) && self.millis() >= self.due.load(Ordering::SeqCst)
 ///     }

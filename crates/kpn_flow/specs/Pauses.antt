@@ -5,6 +5,8 @@ use Rattle.kpn_model.specs.declared.kinds.Act.TheVariants.{Read}
 use Rattle.kpn_model.specs.declared.kinds.Answer.{Answer}
 use Rattle.kpn_model.specs.declared.history.Entry.{Entry}
 use Rattle.kpn_model.specs.declared.history.Entry.TheVariants.{Did, Grew}
+use Rattle.kpn_model.specs.declared.kinds.Kinds.{Ghosts as KindsOf}
+use Rattle.kpn_model.specs.Families.{family}
 use Rattle.kpn_model.specs.Network.{Family, Network, in_of, channel_of}
 use Rattle.kpn_model.specs.Semantics.{State, tokens, wants, Does, Grows, IsQuiet, IsBlocked}
 use Rattle.kpn_model.specs.Endings.{NothingGoesOn}
@@ -112,8 +114,9 @@ StarvesReader kinds s c = IsStarving kinds s.network s.state (channel_of s.netwo
 abbrev pub BlocksWriter : Family → FlowView → ℕ → Type 0
 BlocksWriter kinds s c = IsBlocked kinds s.network s.state (channel_of s.network c).writer c
 
-module _ {K H : Type 0} (kinds : Family) (opened : OpenNet K) where
+module _ {X K H : Type 0} (kinds : KindsOf X) (opened : OpenNet K) where
   -- the core goes on so far, with these counts, and returns for this reason
   abbrev pub CoreAdvances : Counts → Counts → Core H → Core H → ℕ → Pause → Type 0
   CoreAdvances before after core moved =
-      Advances kinds opened.net.now opened.inputs.now opened.outputs.now before after core.store.state moved.store.state
+      Advances (family kinds) opened.net.now opened.inputs.now opened.outputs.now before after
+      core.store.state moved.store.state

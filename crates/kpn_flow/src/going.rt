@@ -41,7 +41,7 @@ pub(crate) fn go_on<B: Body>(
     requires room { 1048576 ≤ core.old.store.limit }
     ensures settled { IsSettled (family B.Kinds.Kinds) B.Kinds.admits opened.now.net.now core.new }
     ensures limit { core.new.store.limit ≡ core.old.store.limit }
-    ensures advances { CoreAdvances (family B.Kinds.Kinds) opened.now counts.old counts.new core.old core.new most result }
+    ensures advances { CoreAdvances B.Kinds.Kinds opened.now counts.old counts.new core.old core.new most result }
     ensures told { TellWants (family B.Kinds.Kinds) opened.now.net.now core.new.store.state core.new.standings result }
 {
     let mut done = 0;

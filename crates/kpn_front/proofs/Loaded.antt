@@ -1,5 +1,5 @@
 -- What `Net::check` returns is what is loaded.
-use Rattle.std.proofs.Common.{◌≡◌, ◌≢◌, ℕ, Bool, true, false, cond, List, [], ◌∷◌, Option, Some, None, Result, Ok, Err, IfOk, IfErr, IfSome, ◌≤◌, length, refl, sym, ◌∙◌}
+use Rattle.std.proofs.Common.{◌≡◌, ◌≢◌, ℕ, Bool, true, false, cond, List, [], ◌∷◌, Option, Some, None, Result, Ok, Err, IfOk, IfErr, IfSome, inl, ◌≤◌, length, refl, sym, ◌∙◌}
 use Rattle.std.proofs.lemmas.Bool.{false≢true}
 use Rattle.std.specs.List.{find}
 use Rattle.kpn_sketch.specs.declared.fault.NetFault.{NetFault}
@@ -7,11 +7,12 @@ use Rattle.kpn_sketch.specs.declared.fault.NetFault.TheVariants.{NotToml, Keys, 
 use Rattle.kpn_model.specs.declared.kinds.Card.{Card}
 use Rattle.kpn_model.specs.declared.kinds.Signature.{Signature}
 use Rattle.kpn_sketch.specs.declared.sketch.Sketch.{Sketch}
-use Rattle.kpn_sketch.specs.Description.{DescribesBy, IsFaultBy, Reader}
+use Rattle.kpn_sketch.specs.Description.{DescribesBy, IsFaultBy, Reader, sketch_of}
 use Rattle.kpn_net.specs.Faults.{first_fault, has_fault}
 use Rattle.kpn_model.specs.Network.{Network}
 use Rattle.kpn_net.specs.Sketched.{net_of}
-use Rattle.kpn_front.specs.Loading.{LoadsChanged, LoadsFrom, ReadsFrom, IsWhole, IsLoadFault, longest}
+use Rattle.kpn_front.specs.declared.loading.Refused.{Refused}
+use Rattle.kpn_front.specs.Loading.{LoadsChanged, LoadsFrom, ReadsFrom, IsChecked, IsTextOf, Loads, IsWhole, IsLoadFault, longest}
 
 -- if an item is found, first or later, it passes the test
 found_at : {A : Type 0} (p : A → Bool) (y x : A) (rest : Option A) (b : Bool) → p y ≡ b → (rest ≡ Some x → p x ≡ true) → cond b (Some y) rest ≡ Some x → p x ≡ true
@@ -58,13 +59,6 @@ module _ (named : List ℕ → Option (ℕ × ℕ)) (signature : Card → Option
     loads_from failed text sketch (Ok n) short d ok fault = (short, (sketch, d, ok.0, ok.1))
     loads_from failed text sketch (Err e) short d ok fault = fault_from failed text sketch e short d fault
 
-    -- what a text describes is loaded of the source that had it, if no read failed
-    pub loads_known :
-        (failed : Bool) (known : Option (List ℕ)) (text : List ℕ) (r : Result Network NetFault) → IfSome known (λ t. text ≡ t) → failed ≡ false
-        → LoadsChanged read change named signature false text r → IfSome known (λ t. LoadsChanged read change named signature failed t r)
-    loads_known failed None text r same e h = tt
-    loads_known failed (Some t) text r same e h = rw (← same, e) h
-
     -- the fault of a text that can't be read is a fault of loading
     unread : (failed : Bool) (text : List ℕ) (e : NetFault) → IsWhole failed text → IsFaultBy read text e → IsLoadFault read change named signature failed text e
     unread failed text Memory whole f = whole.0
@@ -88,14 +82,38 @@ module _ (named : List ℕ → Option (ℕ × ℕ)) (signature : Card → Option
     pub loads_unread : (text : List ℕ) (e : NetFault) → length text ≤ longest → IsFaultBy read text e → LoadsChanged read change named signature false text (Err e)
     loads_unread text e short f = unread false text e (refl, short) f
 
-    -- what is loaded of the text that was read is loaded of the source
-    pub loads_read :
-        {S : Type 0} (is_steady has_failed : S → Bool) (remaining : S → Option (List ℕ)) (before after : S) (text : List ℕ) (r : Result Network NetFault)
-        → IfSome (remaining before) (λ t. text ≡ t) → has_failed after ≡ has_failed before → ReadsFrom is_steady has_failed remaining before after
-        → LoadsChanged read change named signature false text r → LoadsFrom (LoadsChanged read change named signature) is_steady has_failed remaining before after r
-    loads_read is_steady has_failed remaining before after text r same kept source loaded =
-        record {
-          loads = λ fresh. loads_known (has_failed after) (remaining before) text r same (kept ∙ fresh) loaded;
-          failed = λ fresh failed. let bad : false ≡ true = sym fresh ∙ (sym kept ∙ failed) in absurd (false≢true bad);
-          source = source;
-        }
+  -- what is made of the sketch that is read, or of the fault of the text, is loaded
+  pub loads_checked :
+      (text : List ℕ) (found : Result Sketch NetFault) (r : Result Network NetFault) → length text ≤ longest
+      → IfOk found (DescribesBy sketch_of text) → IfErr found (IsFaultBy sketch_of text) → IsChecked named signature found r → Loads named signature false text r
+  loads_checked text (Ok sketch) (Ok n) short describes fault checked = loads_from sketch_of (λ s. s) false text sketch (Ok n) (refl, short) describes checked tt
+  loads_checked text (Ok sketch) (Err e) short describes fault checked = loads_from sketch_of (λ s. s) false text sketch (Err e) (refl, short) describes tt checked
+  loads_checked text (Err e) r short describes fault checked = rw checked (loads_unread sketch_of (λ s. s) text e short fault)
+
+module _ (says : Bool → List ℕ → Result Network NetFault → Type 0) where
+  -- what is said of a text is said of the source that had it, if no read failed
+  pub says_known :
+      (failed : Bool) (known : Option (List ℕ)) (text : List ℕ) (r : Result Network NetFault)
+      → IfSome known (λ t. text ≡ t) → failed ≡ false → says false text r → IfSome known (λ t. says failed t r)
+  says_known failed None text r same e h = tt
+  says_known failed (Some t) text r same e h = rw (← same, e) h
+
+  -- what is loaded of the text that was read is loaded of the source
+  pub loads_read :
+      {S : Type 0} (is_steady has_failed : S → Bool) (remaining : S → Option (List ℕ)) (before after : S) (text : List ℕ) (r : Result Network NetFault)
+      → IfSome (remaining before) (λ t. text ≡ t) → has_failed after ≡ has_failed before → ReadsFrom is_steady has_failed remaining before after
+      → says false text r → LoadsFrom says is_steady has_failed remaining before after r
+  loads_read is_steady has_failed remaining before after text r same kept source loaded =
+      record {
+        loads = λ fresh. says_known (has_failed after) (remaining before) text r same (kept ∙ fresh) loaded;
+        failed = λ fresh failed. let bad : false ≡ true = sym fresh ∙ (sym kept ∙ failed) in absurd (false≢true bad);
+        source = source;
+      }
+
+-- the text that comes back is the source's
+pub text_of :
+    {N : Type 0} (known : Option (List ℕ)) (text : List ℕ) (r : Result N Refused) → IfSome known (λ t. text ≡ t)
+    → IfErr r (λ refused. refused.text.items ≡ text) → IfSome known (λ t. IfErr r (IsTextOf t))
+text_of None text r same is = tt
+text_of (Some t) text (Ok n) same is = tt
+text_of (Some t) text (Err refused) same is = inl (is ∙ same)

@@ -10,7 +10,7 @@ use Rattle.kpn_sketch.specs.Description.{DescribesBy, IsFaultBy, Reader, sketch_
 use Rattle.kpn_net.specs.Faults.{first_fault}
 use Rattle.kpn_model.specs.declared.limits.TheConstants.{LONGEST_TEXT}
 use Rattle.kpn_model.specs.Network.{Network}
-use Rattle.kpn_net.specs.Sketched.{net_of}
+use Rattle.kpn_net.specs.Sketched.{net_of, IsNetOfSketch, IsSketchFault}
 
 -- how many bytes a description may have
 abbrev pub longest : ℕ
@@ -31,6 +31,13 @@ HasNoText refused = (refused.text.items ≡ []) × ((refused.fault ≡ Input) �
 -- the returned text is all there was, or empty if it was not read to its end
 abbrev pub IsTextOf : List ℕ → Refused → Type 0
 IsTextOf text refused = (refused.text.items ≡ text) ⊎ HasNoText refused
+
+module _ (named : KindNames) (signature : Signatures) where
+  -- a sketch's network or its first fault, or the fault for which there is no sketch
+  abbrev pub IsChecked : Result Sketch NetFault → Result Network NetFault → Type 0
+  IsChecked (Ok sketch) result =
+      MatchResult result (IsNetOfSketch named signature sketch) (IsSketchFault named signature sketch)
+  IsChecked (Err fault) result = result ≡ Err fault
 
 -- no read failed, and the text is within the limit
 abbrev pub IsWhole : Bool → List ℕ → Type 0

@@ -13,6 +13,6 @@ mod status;
 mod streams;
 
 pub use lines::{say, say_checked, say_lost, say_no_channel, say_refused};
-pub use loading::{Refused, load, load_or_refuse, read_text};
+pub use loading::{Refused, load, load_or_refuse, net_or_refuse, read_text};
 pub use status::ExitStatus;
 pub use streams::{Fallible, Sink, Source};

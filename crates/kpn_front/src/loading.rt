@@ -1,10 +1,10 @@
 //! Reads a network from a source.
-ghost use Rattle.std.specs.Prelude.{◌≡◌, ◌≢◌, false, ◌≤◌, ◌<◌, ◌+◌, ◌⊎◌, IsTrue, IfOk, IfErr, IfSome};
-ghost use Rattle.kpn_front.specs.Loading.{Loads, LoadsFrom, ReadsFrom, longest, IsTextOf, CannotBeRead, IsAllLeft, LoadsNet};
+ghost use Rattle.std.specs.Prelude.{◌≡◌, ◌≢◌, false, ◌≤◌, ◌<◌, ◌+◌, ◌⊎◌, [], IsTrue, IfOk, IfErr, IfSome};
+ghost use Rattle.kpn_front.specs.Loading.{Loads, LoadsFrom, ReadsFrom, longest, IsTextOf, CannotBeRead, IsAllLeft, IsChecked, LoadsNet, without_text};
 
 use crate::streams::Source;
 use kpn_model::limits::LONGEST_TEXT;
-use kpn_net::{Check, Kinds, Net, NetFault, read_sketch};
+use kpn_net::{Check, Kinds, Net, NetFault, Sketch, read_sketch};
 use std::alloc::Global;
 
 /// The most bytes to read in one call.
@@ -15,6 +15,17 @@ const CHUNK: usize = 4096;
 pub struct Refused {
     pub fault: NetFault,
     pub text: Vec<u8>,
+}
+
+impl Refused {
+    /// Returns a fault that was found before the text was read to its end.
+    pub fn unread(alloc: Global, fault: NetFault) -> Refused
+        ensures fault { result.fault ≡ fault }
+        ensures text { result.text.items ≡ [] }
+    {
+        let text = Vec::new(alloc);
+        Refused { fault, text }
+    }
 }
 
 /// Reads a description to its end, and makes its network. Reads at most 1,048,577 bytes.
@@ -32,21 +43,24 @@ pub fn load_or_refuse<K: Kinds, S: Source>(alloc: Global, source: &mut S) -> Res
     ensures loaded { LoadsNet K.named K.signature S.is_steady S.has_failed S.remaining source.old source.new result }
     ensures text { IfSome (S.remaining source.old) (λ text. IfErr result (IsTextOf text)) }
 {
-    let text = match read_text(alloc, source) {
-        Ok(text) => text,
-        Err(fault) => {
-            let text = Vec::new(alloc);
-            return Err(Refused { fault, text });
-        }
-    };
-    let sketch = match read_sketch(alloc, text.as_slice()) {
-        Ok(sketch) => sketch,
-        Err(fault) => return Err(Refused { fault, text }),
-    };
-    match Net::check(alloc, &sketch) {
-        Ok(net) => Ok(net),
-        Err(fault) => Err(Refused { fault, text }),
-    }
+    let text = read_text(alloc, source).map_err(|fault| Refused::unread(alloc, fault))?;
+    let sketch = read_sketch(alloc, text.as_slice());
+    net_or_refuse(alloc, text, sketch)
+}
+
+/// Checks the sketch of a text, and makes its network.
+///
+/// Errors: the fault for which there is no sketch, or the one that `Net::check` finds, with the text.
+pub fn net_or_refuse<K: Kinds>(
+    alloc: Global,
+    text: Vec<u8>,
+    sketch: Result<Sketch, NetFault>,
+) -> Result<Net<K>, Refused>
+    ensures checked { IsChecked K.named K.signature sketch (without_text result) }
+    ensures text { IfErr result (λ refused. refused.text.items ≡ text.items) }
+{
+    let checked = sketch.and_then(|sketch| Net::check(alloc, &sketch));
+    checked.map_err(|fault| Refused { fault, text })
 }
 
 /// Reads a source to its end and returns its bytes, at most 1 MiB.

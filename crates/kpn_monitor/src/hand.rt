@@ -163,8 +163,8 @@ impl Sharer {
         share.min(most).clamp(1, MOST_TASKS)
     }
 
-    /// Whether the worker wants to rest for the first time.
-    pub(crate) fn is_first_rest(&mut self) -> bool {
+    /// Notes that the worker wants to rest. Returns whether it is the first time.
+    pub(crate) fn begins_to_rest(&mut self) -> bool {
         let is_first = !self.wanted_rest;
         self.wanted_rest = true;
         is_first

@@ -216,7 +216,7 @@ impl<B: Body, E: EntryLedger, O: Ledger, H: Keeper> Monitor<B, E, O, H> {
         if why == Rest::Idle && self.lock(rt).has_work() {
             return false;
         }
-        let is_new = hand.sharer.is_first_rest();
+        let is_new = hand.sharer.begins_to_rest();
         let rests = resters.begin(is_new, why);
         self.awake.store(resters.awake(), Ordering::SeqCst);
         if !rests {

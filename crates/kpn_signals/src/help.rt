@@ -1,13 +1,5 @@
 //! Help on the kinds for signals.
-
-/// A line of help on a kind: name, arguments, sorts of inputs and outputs (w a word, f a flag), what it does.
-#[derive(Clone, Copy, Debug)]
-pub struct Help {
-    pub name: &'static str,
-    pub arguments: &'static str,
-    pub ports: &'static str,
-    pub does: &'static str,
-}
+use kpn_standard::Help;
 
 /// Explains "signed" in the lines of help.
 pub const SIGNED: &str =

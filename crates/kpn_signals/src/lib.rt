@@ -26,6 +26,7 @@ mod wide;
 pub mod words;
 
 pub use answers::answer;
-pub use help::{HELP, Help, SIGNED};
+pub use help::{HELP, SIGNED};
+pub use kpn_standard::Help;
 pub use signal::Signal;
 pub use signals::Signals;

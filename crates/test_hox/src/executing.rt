@@ -6,8 +6,8 @@ use crate::drawing::{COUNTER, COUNTER_LINES, drawn};
 use crate::samples::COPY;
 use hox_args::StreamChoice;
 use hox_execute::{
-    Executed, FileSystem, Formats, Pair, Role, Stop, StreamStop, count_standard, execute,
-    is_named_twice, pairs_of, stream,
+    FileSystem, Formats, Pair, Role, ServedCommand, Stop, StreamStop, count_standard,
+    is_named_twice, pairs_of, serve, stream,
 };
 use hox_network::AllKinds;
 use hox_run::Silent;
@@ -156,12 +156,12 @@ fn push_bytes(trace: &mut String, bytes: &[u8]) -> Result<(), AllocError> {
 }
 
 /// Returns the exit status, or 9 if a stream is to run, and 10 if kinds are to be listed.
-fn status_of(outcome: &Result<Executed<'_>, Stop<'_>>) -> u8 {
+fn status_of(outcome: &Result<ServedCommand<'_>, Stop<'_>>) -> u8 {
     match outcome {
-        Ok(Executed::Exits(status)) => status.code(),
-        Ok(Executed::Ran(ran)) => ran.status.code(),
-        Ok(Executed::Streams(_)) => 9,
-        Ok(Executed::Lists(_)) => 10,
+        Ok(ServedCommand::Exits(status)) => status.code(),
+        Ok(ServedCommand::Ran(ran)) => ran.status.code(),
+        Ok(ServedCommand::Streams(_)) => 9,
+        Ok(ServedCommand::Lists(_)) => 10,
         Err(stop) => stop.status().code(),
     }
 }
@@ -195,7 +195,7 @@ fn does_among<R: AllocGlobal + Wait + Clock + Threads + Abort + Sync>(
 ) {
     let alloc = rt.alloc();
     let words: Vec<&str> = line.split(' ').collect(alloc).expect(rt, "no memory");
-    let outcome = execute::<AllKinds, _, _, _>(rt, alloc, &mut memory, words.as_slice(), &Silent);
+    let outcome = serve::<AllKinds, _, _, _>(rt, alloc, &mut memory, words.as_slice(), &Silent);
     same(rt, line, status_of(&outcome), status);
     let trace = trace_of(alloc, memory.done.as_slice()).expect(rt, "no memory");
     same(rt, line, trace.as_str(), due);

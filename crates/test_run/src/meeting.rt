@@ -23,22 +23,22 @@ pub(crate) struct Meeting {
     workers: usize,
     left: usize,
     right: usize,
-    times: Times,
+    times: MeetingTimes,
 }
 
 /// At which of its calls a body waits for the other.
 #[derive(Clone, Copy)]
-enum Times {
+enum MeetingTimes {
     Call(u64),
     /// At the first three calls, and at each multiple of ten thousand.
     Rarely,
 }
 
-impl Times {
+impl MeetingTimes {
     fn has(self, call: u64) -> bool {
         match self {
-            Times::Call(number) => call == number,
-            Times::Rarely => call <= 3 || call % 10_000 == 0,
+            MeetingTimes::Call(number) => call == number,
+            MeetingTimes::Rarely => call <= 3 || call % 10_000 == 0,
         }
     }
 }
@@ -60,7 +60,7 @@ pub(crate) struct Calls {
 
 /// Counts a call and, if it is one of `times`, waits until the other has come as far. It yields between two
 /// looks. If the other never comes, the test times out after a minute.
-fn meet(times: Times, side: Side, calls: &Calls) {
+fn meet(times: MeetingTimes, side: Side, calls: &Calls) {
     let (mine, other) = match side {
         Side::Left => (&calls.left, &calls.right),
         Side::Right => (&calls.right, &calls.left),
@@ -108,7 +108,7 @@ fn side_of(meeting: Meeting, process: usize) -> Side {
 #[derive(Drop)]
 pub(crate) struct Meeter {
     card: Card,
-    times: Times,
+    times: MeetingTimes,
     side: Side,
     calls: Arc<Calls>,
 }
@@ -185,7 +185,7 @@ pub(crate) static COUNTER_MEETS: Meeting = Meeting {
     workers: 2,
     left: 0,
     right: 1,
-    times: Times::Call(1),
+    times: MeetingTimes::Call(1),
 };
 
 /// Five processes, all enabled at first, and three workers. The two are neighbours: in one hand of two tasks
@@ -195,7 +195,7 @@ static CHAIN_MEETS: Meeting = Meeting {
     workers: 3,
     left: 3,
     right: 4,
-    times: Times::Call(1),
+    times: MeetingTimes::Call(1),
 };
 
 /// A counter of thirty thousand and its sink, with two workers. Both work at the first calls. Then calls are
@@ -222,7 +222,7 @@ to = \"snk\"
     workers: 2,
     left: 0,
     right: 1,
-    times: Times::Rarely,
+    times: MeetingTimes::Rarely,
 };
 
 #[test]
@@ -236,7 +236,7 @@ fn two_workers_meet_at_the_second_call(rt: HostRuntime) {
         &rt,
         rt.alloc(),
         Meeting {
-            times: Times::Call(2),
+            times: MeetingTimes::Call(2),
             ..COUNTER_MEETS
         },
         &COUNTER_ENDS,
@@ -254,7 +254,7 @@ fn two_of_five_processes_meet_at_the_second_call(rt: HostRuntime) {
         &rt,
         rt.alloc(),
         Meeting {
-            times: Times::Call(2),
+            times: MeetingTimes::Call(2),
             ..CHAIN_MEETS
         },
         &READY_CHAIN_ENDS,

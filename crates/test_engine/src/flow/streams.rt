@@ -116,13 +116,13 @@ fn counted<R: Abort>(rt: &R, served: &EndedStream<Kinds, &[u8], Vec<u8>>) -> (u6
 
 /// An onlooker that keeps what it saw last.
 #[derive(Drop)]
-struct Seen {
+struct LastSeen {
     channels: AtomicU64,
     read: AtomicU64,
     written: AtomicU64,
 }
 
-impl Onlooker for Seen {
+impl Onlooker for LastSeen {
     fn is_due(&self) -> bool {
         true
     }
@@ -142,7 +142,7 @@ impl Onlooker for Seen {
 #[test]
 fn an_onlooker_sees_how_many_tokens_came_and_went(rt: HostRuntime) {
     let alloc = rt.alloc();
-    let seen = Seen {
+    let seen = LastSeen {
         channels: AtomicU64::new(0),
         read: AtomicU64::new(0),
         written: AtomicU64::new(0),

@@ -95,23 +95,27 @@ const W: Option<Sort> = Some(Sort::Words);
 const F: Option<Sort> = Some(Sort::Flags);
 
 /// A line of help's ports, and the inputs and outputs that they mean.
-static PORTS: [(&str, [Option<Sort>; 3], [Option<Sort>; 3]); 12] = [
+static PORTS: [(&str, [Option<Sort>; 3], [Option<Sort>; 3]); 16] = [
     ("-> w", [None, None, None], [W, None, None]),
     ("-> f", [None, None, None], [F, None, None]),
     ("w ->", [W, None, None], [None, None, None]),
     ("f ->", [F, None, None], [None, None, None]),
     ("w -> w", [W, None, None], [W, None, None]),
+    ("w -> w w", [W, None, None], [W, W, None]),
+    ("w -> f", [W, None, None], [F, None, None]),
     ("w w -> w", [W, W, None], [W, None, None]),
     ("w w -> f", [W, W, None], [F, None, None]),
     ("f -> f", [F, None, None], [F, None, None]),
     ("f -> w", [F, None, None], [W, None, None]),
     ("f f -> f", [F, F, None], [F, None, None]),
     ("w f -> w", [W, F, None], [W, None, None]),
+    ("w f -> w w", [W, F, None], [W, W, None]),
+    ("w w f -> w", [W, W, F], [W, None, None]),
     ("f -> f f", [F, None, None], [F, F, None]),
 ];
 
 /// Returns the ports of a line of help; for an unknown line, more than any kind has.
-fn ports_of(text: &str) -> Signature {
+pub(super) fn ports_of(text: &str) -> Signature {
     for (shape, ins, outs) in &PORTS {
         if *shape == text {
             return Signature {
@@ -126,10 +130,10 @@ fn ports_of(text: &str) -> Signature {
     }
 }
 
-fn arguments_of(text: &str) -> usize {
+pub(super) fn arguments_of(text: &str) -> usize {
     match text {
         "" => 0,
-        "LO HI" | "A B" => 2,
+        "LO HI" | "A B" | "FROM N" => 2,
         _ => 1,
     }
 }

@@ -1,12 +1,13 @@
 //! Each line of each standard kind, with numbers of its own; the names, arguments and ports.
 use crate::checks::same;
+use crate::kinds::signals::{arguments_of, ports_of};
 use crate::kinds::{meant, ports_given};
 use kpn_model::Act::{Read, Stop, Write};
 use kpn_model::Token::{Flag, Word};
 use kpn_model::{Act, Answer, Card, Kinds, Local, Signature, Sort};
 use kpn_standard::{
-    Kind, Standard, add, answer, copy, count, divides, merge, prefix, scale, select, sink, switch,
-    take, weave,
+    HELP, Help, Kind, Standard, add, answer, copy, count, divides, merge, prefix, scale, select,
+    sink, switch, take, weave,
 };
 use std::process::Abort;
 
@@ -424,6 +425,26 @@ fn kinds_have_rows(rt: HostRuntime) {
         Kind::Weave.accepts([1, 0, 0]),
     ];
     same(&rt, "others", others, [true, true, true, false]);
+}
+
+/// A static, since a constant is built anew at each use.
+static LINES: [Help; 12] = HELP;
+
+#[test]
+fn help_says_names_arguments_and_ports(rt: HostRuntime) {
+    for (help, (kind, _, name, arguments)) in LINES.iter().zip(&KINDS) {
+        let row = kind.row();
+        let ports = Signature {
+            ins: row.ins,
+            outs: row.outs,
+        };
+        let found = (
+            help.name,
+            arguments_of(help.arguments),
+            ports_of(help.ports),
+        );
+        same(&rt, name, found, (*name, *arguments, ports));
+    }
 }
 
 const W: Option<Sort> = Some(Sort::Words);

@@ -4,8 +4,12 @@ ghost use Rattle.std.specs.Str.{bytes_eq};
 
 use crate::checks::same;
 use kpn_execute::{load, say_checked, say_refused};
-use kpn_front::{ExitStatus, Fallible, Refused, Source, load_or_refuse, read_text, say_lost};
-use kpn_net::{Act, Answer, Card, Kinds, Local, Net, NetFault, Signature, Sort, Token};
+use kpn_front::{
+    ExitStatus, Fallible, Refused, Source, load_or_refuse, net_or_refuse, read_text, say_lost,
+};
+use kpn_net::{
+    Act, Answer, Card, Kinds, Local, Net, NetFault, Signature, Sketch, Sort, Token, read_sketch,
+};
 use std::alloc::{AllocError, Global};
 use std::fmt::Write as _;
 use std::io;
@@ -375,13 +379,13 @@ fn refuses_every_beginning(rt: HostRuntime) {
 /// Reads or writes one byte a call, and fails after `before` calls. A read fails once if `fails_once`;
 /// otherwise every later call fails.
 #[derive(Drop)]
-struct Failing<'a> {
+struct FailingStream<'a> {
     bytes: &'a [u8],
     before: usize,
     fails_once: bool,
 }
 
-impl<'a> Read for Failing<'a> {
+impl<'a> Read for FailingStream<'a> {
     fn read(&mut self, buf: &mut [u8]) -> io::Result<usize> {
         if self.before == 0 {
             if self.fails_once {
@@ -399,7 +403,7 @@ impl<'a> Read for Failing<'a> {
     }
 }
 
-impl<'a> Write for Failing<'a> {
+impl<'a> Write for FailingStream<'a> {
     fn write(&mut self, buf: &[u8]) -> io::Result<usize> {
         if self.before == 0 {
             return Err(io::ErrorKind::Other.into());
@@ -425,7 +429,7 @@ static READS: [(usize, u8); 4] = [
 static WRITES: [(usize, u8); 3] = [(0, 7), (10, 7), (11, 4)];
 
 fn compare_read<R: Abort>(rt: &R, alloc: Global, before: usize, fails_once: bool, number: u8) {
-    let mut source = Fallible::new(Failing {
+    let mut source = Fallible::new(FailingStream {
         bytes: COUNTER.as_bytes(),
         before,
         fails_once,
@@ -435,7 +439,7 @@ fn compare_read<R: Abort>(rt: &R, alloc: Global, before: usize, fails_once: bool
 }
 
 fn compare_write<R: Abort>(rt: &R, before: usize, status: u8) {
-    let mut sink = Fallible::new(Failing {
+    let mut sink = Fallible::new(FailingStream {
         bytes: b"",
         before,
         fails_once: false,
@@ -519,6 +523,35 @@ fn compare_refused<R: Abort>(rt: &R, alloc: Global, text: &[u8]) {
 fn hands_back_a_refused_text(rt: HostRuntime) {
     let text = "version = 1\nprocess = []\n".as_bytes();
     compare_refused(&rt, rt.alloc(), text);
+}
+
+/// What is made of a sketch: the number of its fault, 0 without one, and the text that comes back.
+fn compare_sketch<R: Abort>(rt: &R, alloc: Global, sketch: Result<Sketch, NetFault>, number: u8) {
+    let text = Vec::from_slice(alloc, b"text").expect(rt, "no memory");
+    let checked: Result<Net<CountAndSink>, Refused> = net_or_refuse(alloc, text, sketch);
+    match checked {
+        Ok(net) => same(rt, "processes", (net.processes(), number), (2, 0)),
+        Err(refused) => {
+            let found = (refused.fault.number(), refused.text.as_slice());
+            same(rt, "refused", found, (number, b"text"));
+        }
+    }
+}
+
+#[test]
+fn sketches_are_checked(rt: HostRuntime) {
+    let alloc = rt.alloc();
+    let twice = edited(&rt, alloc, COUNTER, "\"snk\"", "\"src\"");
+    compare_sketch(&rt, alloc, read_sketch(alloc, COUNTER.as_bytes()), 0);
+    compare_sketch(&rt, alloc, read_sketch(alloc, twice.as_bytes()), 5);
+    compare_sketch(&rt, alloc, Err(NetFault::Keys), 2);
+}
+
+#[test]
+fn an_unread_text_is_empty(rt: HostRuntime) {
+    let refused = Refused::unread(rt.alloc(), NetFault::Input);
+    let found = (refused.fault.number(), refused.text.len());
+    same(&rt, "unread", found, (15, 0));
 }
 
 #[test]

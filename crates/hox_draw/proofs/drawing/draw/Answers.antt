@@ -1,5 +1,5 @@
 -- A text that was read is drawn; a source that can't be read is refused.
-use Rattle.std.proofs.Common.{rules, IfSome, Err, refl}
+use Rattle.std.proofs.Common.{rules, IfSome, Some, Err, ap}
 use Rattle.kpn_sketch.specs.Description.{delayed_of}
 use Rattle.kpn_front.specs.Loading.{LoadsChanged}
 use Rattle.hox_network.specs.Meant.{as_meant}
@@ -26,7 +26,7 @@ returns-in-Err g c =
         loaded = Err c.in-Err.fault;
         loads = λ fresh. let read : IfSome known (λ text. LoadsChanged delayed_of (as_meant named signature text) named signature failed text (Err c.in-Err.fault)) = search rules in known_unread named signature failed known (Err c.in-Err.fault) read;
         failed = search rules;
-        comes = refl;
+        comes = ap Some c.unread.ensures.fault;
       };
       taken = c.in-Err.ensures.source.taken;
     }

@@ -1,6 +1,6 @@
--- Found without an answer too; with it a wrong body is refused at once.
-use Rattle.std.proofs.Common.{rules}
+-- The fault is the one that is made.
+use Rattle.std.proofs.Common.{Some, ap}
 use Rattle.hox_files.proofs.stops.unopened.Goals as goal
 
 pub returns : goal.returns
-returns c = search rules
+returns c = ap Some c.unread.ensures.fault

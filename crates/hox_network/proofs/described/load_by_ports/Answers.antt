@@ -1,61 +1,32 @@
 -- What the text means is loaded of the source: a network, or a fault.
-use Rattle.std.proofs.Common.{◌≡◌, ◌∙◌, true, false, sym, rules, IfSome, Ok, Err}
-use Rattle.kpn_sketch.specs.Description.{IsDelayedFault, delayed_of}
-use Rattle.kpn_front.specs.Loading.{LoadsChanged}
-use Rattle.hox_network.proofs.Meant.{known_unread, loads_known, loads_sketch, unread_fault}
-use Rattle.hox_network.specs.Meant.{IsSketchOf, as_meant}
+use Rattle.std.proofs.Common.{◌≡◌, ◌∙◌, Ok, Err, ap, arith, rules}
+use Rattle.kpn_sketch.specs.declared.fault.NetFault.TheVariants.{Input}
+use Rattle.kpn_front.specs.Loading.{without_text}
+use Rattle.kpn_front.proofs.Loaded.{loads_read}
+use Rattle.hox_network.specs.Meant.{LoadsMeant}
+use Rattle.hox_network.proofs.Meant.{loads_checked, same_fault, unread_source}
 use Rattle.hox_network.proofs.described.load_by_ports.Goals as goal
 
-pub returns-in-Err : goal.returns-in-Err
-returns-in-Err g c =
+pub returns : goal.returns
+returns g c =
     let named = g.K.Kinds.named in
     let signature = g.K.Kinds.signature in
-    let known = g.S.Source.remaining c.args.source.now in
-    let failed = g.S.Source.has_failed c.read_text.new.source in
-    record {
-      loads = λ fresh. let read : IfSome known (λ text. LoadsChanged delayed_of (as_meant named signature text) named signature failed text (Err c.in-Err.fault)) = search rules in known_unread named signature failed known (Err c.in-Err.fault) read;
-      failed = search rules;
-      source = c.in-Err.ensures.source;
-    }
+    let text = c.in_ok-text.text.items in
+    let read : c.read_text.result ≡ Ok c.in_ok-text.text = grind arith in
+    let whole = rw read at c.read_text.ensures.ok in
+    let found = c.sketch_of_text-sketch in
+    let loaded = without_text c.net_or_refuse.result in
+    let checked = loads_checked named signature text found.result loaded whole.0 (rw c.as_slice.ensures.value at found.ensures) c.net_or_refuse.ensures.checked in
+    loads_read (LoadsMeant named signature) g.S.Source.is_steady g.S.Source.has_failed g.S.Source.remaining c.args.source.now c.read_text.new.source text loaded
+    whole.1 (c.read_text.ensures.failed (λ e. cc)) c.read_text.ensures.source checked
 
-pub returns-in-Err-sketch_of_text : goal.returns-in-Err-sketch_of_text
-returns-in-Err-sketch_of_text g c =
-    let named = g.K.Kinds.named in
-    let signature = g.K.Kinds.signature in
-    let text = c.in-Ok.text.items in
-    let fault = c.in-Err-sketch_of_text.fault in
-    let is : IsDelayedFault text fault = rw (← c.as_slice.ensures.value) c.in-Err-sketch_of_text.ensures in
-    let unfailed = c.in-Ok.ensures.failed (λ e. cc) in
-    record {
-      loads = λ fresh. loads_known named signature _ _ text (Err fault) c.in-Ok.ensures.ok.1 (unfailed ∙ fresh) (unread_fault named signature text fault c.in-Ok.ensures.ok.0 is);
-      failed = λ fresh after. let bad : false ≡ true = sym (unfailed ∙ fresh) ∙ after in cc;
-      source = c.in-Ok.ensures.source;
-    }
-
-pub returns-in-Ok-check : goal.returns-in-Ok-check
-returns-in-Ok-check g c =
-    let named = g.K.Kinds.named in
-    let signature = g.K.Kinds.signature in
-    let text = c.in-Ok.text.items in
-    let of_text : IsSketchOf named signature text c.in-Ok-sketch_of_text.meant = rw (← c.as_slice.ensures.value) c.in-Ok-sketch_of_text.ensures in
-    let loaded = loads_sketch named signature text c.in-Ok-sketch_of_text.meant (Ok c.in-Ok-check.net) c.in-Ok.ensures.ok.0 of_text c.in-Ok-check.ensures.ok c.in-Ok-check.ensures.fault in
-    let unfailed = c.in-Ok.ensures.failed (λ e. cc) in
-    record {
-      loads = λ fresh. loads_known named signature _ _ text (Ok c.in-Ok-check.net) c.in-Ok.ensures.ok.1 (unfailed ∙ fresh) loaded;
-      failed = λ fresh after. let bad : false ≡ true = sym (unfailed ∙ fresh) ∙ after in cc;
-      source = c.in-Ok.ensures.source;
-    }
-
-pub returns-in-Err-check : goal.returns-in-Err-check
-returns-in-Err-check g c =
-    let named = g.K.Kinds.named in
-    let signature = g.K.Kinds.signature in
-    let text = c.in-Ok.text.items in
-    let of_text : IsSketchOf named signature text c.in-Ok-sketch_of_text.meant = rw (← c.as_slice.ensures.value) c.in-Ok-sketch_of_text.ensures in
-    let loaded = loads_sketch named signature text c.in-Ok-sketch_of_text.meant (Err c.in-Err-check.fault) c.in-Ok.ensures.ok.0 of_text c.in-Err-check.ensures.ok c.in-Err-check.ensures.fault in
-    let unfailed = c.in-Ok.ensures.failed (λ e. cc) in
-    record {
-      loads = λ fresh. loads_known named signature _ _ text (Err c.in-Err-check.fault) c.in-Ok.ensures.ok.1 (unfailed ∙ fresh) loaded;
-      failed = λ fresh after. let bad : false ≡ true = sym (unfailed ∙ fresh) ∙ after in cc;
-      source = c.in-Ok.ensures.source;
-    }
+pub returns-in_err-text : goal.returns-in_err-text
+returns-in_err-text g c =
+    let refused = c.in_err-text.field-0.0 in
+    let fault = refused.fault in
+    let read : c.read_text.result ≡ Err fault = search rules in
+    let result : c.from_residual.result ≡ Err refused = search rules in
+    let unread = unread_source g.K.Kinds.named g.K.Kinds.signature g.S.Source.is_steady g.S.Source.has_failed g.S.Source.remaining c.args.source.now c.read_text.new.source fault
+    (λ input. c.read_text.ensures.input (read ∙ ap Err input)) (rw read at c.read_text.ensures.fault)
+    (λ other. c.read_text.ensures.failed (λ input. other (same_fault c.read_text.result fault Input read input))) c.read_text.ensures.source in
+    rw result unread
