@@ -1,11 +1,11 @@
 //! The files of the system, standard input and standard output, and standard error.
 use crate::progress::ProgressLine;
-use crate::reasons::say_unwritten;
 use crate::same::can_clash;
 use crate::screen::Screen;
 use crate::taps::{Origin, Spout, Tap, Target};
 use crate::whole::write_whole;
 use hox_execute::FileSystem;
+use hox_messages::say_unwritten;
 use std::io::Write;
 use std::rt::Files;
 use std::{fs, io};

@@ -2,17 +2,10 @@
 //! what went through their channels, and draws them.
 #![tactic(auto)]
 
-mod formats;
-mod formulas;
-mod hints;
 mod host;
-mod kinds;
-mod messages;
 mod progress;
-mod reasons;
 mod same;
 mod screen;
-mod sinks;
 mod stream_line;
 mod streaming;
 mod taps;
@@ -20,16 +13,15 @@ mod told;
 mod unused;
 mod whole;
 
-use crate::formats::say_files;
 use crate::host::Host;
-use crate::kinds::list_kinds;
-use crate::messages::{say_no_memory, say_stop};
 use crate::progress::ProgressLine;
 use crate::screen::Screen;
 use crate::stream_line::StreamProgress;
 use crate::streaming::stream_asked;
+use crate::told::say_files;
 use crate::unused::say_unused_by_run;
 use hox_execute::{ServedCommand, Stop, serve};
+use hox_messages::{list_kinds, say_no_memory, say_stop};
 use hox_network::AllKinds;
 use std::alloc::AllocError;
 use std::io::IsTerminal;

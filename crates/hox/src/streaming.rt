@@ -1,14 +1,14 @@
 //! Running a network on tokens that come, as they come.
-use crate::formats::say_head;
-use crate::hints::say_no_channel;
 use crate::host::Host;
-use crate::messages::{say_no_memory, say_refused, say_stop};
-use crate::reasons::{say_undescribed, say_unreadable, say_unwritten};
 use crate::screen::Screen;
 use crate::stream_line::StreamProgress;
 use crate::told::say_told;
 use hox_args::StreamChoice;
 use hox_execute::{Pair, StreamEnds, StreamStop, stream};
+use hox_messages::{
+    say_head, say_no_channel, say_no_memory, say_refused, say_stop, say_undescribed,
+    say_unreadable, say_unwritten,
+};
 use hox_network::AllKinds;
 use hox_stream::{NameFault, StreamFault};
 use kpn_front::{ExitStatus, Refused};

@@ -2,15 +2,10 @@
 ghost use Rattle.std.specs.Prelude.{◌≡◌, false, None, is_some};
 ghost use Rattle.std.specs.Io.{ReadsAtMost};
 
-use hox_format::Resumed;
+use hox_messages::Failing;
 use kpn_front::{Sink, Source};
 use std::io;
 use std::io::{Read, Write};
-
-/// What remembers why the last read or write that failed did so.
-pub(crate) trait Failing {
-    fn error(&self) -> Option<io::Error>;
-}
 
 /// Where a source's bytes come from.
 #[derive(Drop)]
@@ -41,12 +36,6 @@ impl<I, F> Tap<I, F> {
 impl<I, F> Failing for Tap<I, F> {
     fn error(&self) -> Option<io::Error> {
         self.error
-    }
-}
-
-impl<S: Failing> Failing for Resumed<S> {
-    fn error(&self) -> Option<io::Error> {
-        self.source().error()
     }
 }
 

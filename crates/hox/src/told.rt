@@ -1,13 +1,11 @@
-//! What is told of a stream that ended.
-use crate::formats::{lines_before, record_name};
-use crate::messages::{input_name, needed, say_no_memory, say_record};
-use crate::reasons::say_unreadable;
-use crate::sinks::{
-    Written, all_written, failure_at, say_all_clipped, say_apart, say_output_unwritten, say_token,
-};
-use crate::taps::Failing;
+//! What is told of a run or a stream that ended.
 use crate::unused::say_unused_by_stream;
-use hox_execute::{Pair, StreamEnds, Streamed};
+use hox_execute::{FileNote, Pair, StreamEnds, Streamed};
+use hox_messages::{
+    Failing, Written, all_written, failure_at, input_name, lines_before, needed, record_name,
+    say_all_clipped, say_apart, say_clipped, say_misfit, say_no_memory, say_output_unwritten,
+    say_record, say_token, say_unreadable,
+};
 use hox_stream::{EndedStream, Inlet, LONGEST_RECORD, Refusal, StreamFinish};
 use kpn_body::Body;
 use kpn_compute::Computes;
@@ -40,6 +38,16 @@ pub(crate) fn say_told<
     let status = say_verdict(rt, served, is_quiet);
     say_unused_by_stream(rt, streamed);
     status
+}
+
+/// Says of each file of a run's streams which token does not fit, and how many were clipped.
+pub(crate) fn say_files<R: Eprint>(rt: &R, outputs: &[Pair<'_>], files: &[FileNote]) {
+    for (pair, file) in outputs.iter().zip(files) {
+        say_clipped(rt, pair, file.clipped as u64);
+        if file.is_misfit {
+            say_misfit(rt, pair, (file.tokens as u64).saturating_add(1));
+        }
+    }
 }
 
 /// Says the verdict on how a stream left its network, unless it is not wanted, and returns the exit status.

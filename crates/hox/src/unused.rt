@@ -1,6 +1,6 @@
 //! What is said of what a run or a stream left unused.
-use crate::messages::input_name;
 use hox_execute::{Pair, Ran, Streamed};
+use hox_messages::input_name;
 use hox_run::{Notes, SourceNote};
 use hox_stream::{Inlet, StreamFinish};
 use kpn_compute::{CardBody, Computes, bodies_of};

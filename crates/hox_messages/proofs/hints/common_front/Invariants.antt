@@ -1,5 +1,5 @@
 use Rattle.std.proofs.Common.{◌≤◌, ◌-◌, length}
-use Rattle.hox.proofs.hints.common_front.Given as goal
+use Rattle.hox_messages.proofs.hints.common_front.Given as goal
 
 abbrev pub invariant-loop-front : goal.invariant-loop-front
 invariant-loop-front l = (l.front ≤ length l.a) × (l.front ≤ length l.b)

@@ -1,7 +1,8 @@
 //! What is said of formats of files.
 use crate::messages::input_name;
 use crate::reasons::output_name;
-use hox_execute::{FileNote, FormatStop, Pair};
+use hox_files::formats::FormatStop;
+use hox_files::pairs::Pair;
 use hox_format::{Format, FormatFault, HeadFault};
 use kpn_tokens::{RecordFault, WavFault};
 
@@ -66,7 +67,7 @@ fn say_twice<R: Eprint>(rt: &R, channel: &str) {
 }
 
 /// Says what is wrong with what stands before the tokens in a file, and what would do.
-pub(crate) fn say_head<R: Eprint>(rt: &R, file: &str, fault: HeadFault) {
+pub fn say_head<R: Eprint>(rt: &R, file: &str, fault: HeadFault) {
     let file = input_name(file);
     let _ = match fault {
         HeadFault::Wav(fault) => {
@@ -114,7 +115,7 @@ fn wrong_with_names(fault: RecordFault) -> &'static str {
 }
 
 /// How many lines stand before the tokens in a file of this format.
-pub(crate) fn lines_before(format: Format<'_>) -> u64 {
+pub fn lines_before(format: Format<'_>) -> u64 {
     match format {
         Format::Csv(csv) if csv.has_header => 1,
         _ => 0,
@@ -122,25 +123,15 @@ pub(crate) fn lines_before(format: Format<'_>) -> u64 {
 }
 
 /// How a record of a file of this format is named.
-pub(crate) fn record_name(format: Format<'_>) -> &'static str {
+pub fn record_name(format: Format<'_>) -> &'static str {
     match format {
         Format::Text(_) | Format::Csv(_) => "line",
         Format::Wav(_) | Format::Raw(_) => "frame",
     }
 }
 
-/// Says of each file of a run's streams which token does not fit, and how many were clipped.
-pub(crate) fn say_files<R: Eprint>(rt: &R, outputs: &[Pair<'_>], files: &[FileNote]) {
-    for (pair, file) in outputs.iter().zip(files) {
-        say_clipped(rt, pair, file.clipped as u64);
-        if file.is_misfit {
-            say_misfit(rt, pair, (file.tokens as u64).saturating_add(1));
-        }
-    }
-}
-
 /// Says which token of a channel, counted from 1, does not fit the file to which it goes, and what would do.
-pub(crate) fn say_misfit<R: Eprint>(rt: &R, pair: &Pair<'_>, token: u64) {
+pub fn say_misfit<R: Eprint>(rt: &R, pair: &Pair<'_>, token: u64) {
     let (channel, file) = (pair.channel, output_name(pair.file));
     let _ = eprintln!(rt;
         "hox: token {token} of channel {channel} doesn't fit a sample of {file}; add clip to its --format, or use wider samples"
@@ -148,7 +139,7 @@ pub(crate) fn say_misfit<R: Eprint>(rt: &R, pair: &Pair<'_>, token: u64) {
 }
 
 /// Says how many tokens of a channel were written as the nearest sample, if any were.
-pub(crate) fn say_clipped<R: Eprint>(rt: &R, pair: &Pair<'_>, clipped: u64) {
+pub fn say_clipped<R: Eprint>(rt: &R, pair: &Pair<'_>, clipped: u64) {
     let channel = pair.channel;
     let _ = match clipped {
         0 => Ok(()),

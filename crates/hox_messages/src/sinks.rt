@@ -1,9 +1,9 @@
 //! What is told of the files to which a stream was written.
+use crate::failing::Failing;
 use crate::formats::{say_clipped, say_misfit};
 use crate::messages::say_no_memory;
 use crate::reasons::{output_name, say_unwritten};
-use crate::taps::Failing;
-use hox_execute::Pair;
+use hox_files::pairs::Pair;
 use hox_stream::{EndedStream, MOST_AHEAD, TableOutlet};
 use kpn_compute::Computes;
 use kpn_front::{Sink, Source};
@@ -12,13 +12,13 @@ use std::io;
 
 /// What was written of a channel: so many tokens, and for so many of them the nearest that fits.
 #[derive(Clone, Copy)]
-pub(crate) struct Written {
-    pub(crate) tokens: u64,
-    pub(crate) clipped: u64,
+pub struct Written {
+    pub tokens: u64,
+    pub clipped: u64,
 }
 
 /// What was written of each output, in order: files of one channel, and then the columns of those of several.
-pub(crate) fn all_written<F: Computes, I: Source, O: Sink>(
+pub fn all_written<F: Computes, I: Source, O: Sink>(
     alloc: Global,
     served: &EndedStream<F, I, O>,
 ) -> Result<Vec<Written>, AllocError> {
@@ -50,7 +50,7 @@ fn push_columns<O: Sink>(
 }
 
 /// Says of each output how many tokens were written as the nearest that fits.
-pub(crate) fn say_all_clipped<R: Eprint>(rt: &R, outputs: &[Pair<'_>], written: &[Written]) {
+pub fn say_all_clipped<R: Eprint>(rt: &R, outputs: &[Pair<'_>], written: &[Written]) {
     for (pair, written) in outputs.iter().zip(written) {
         say_clipped(rt, pair, written.clipped);
     }
@@ -79,7 +79,7 @@ fn table_at<F: Computes, I: Source, O: Sink>(
 }
 
 /// Why the file of this number could not be written.
-pub(crate) fn failure_at<F: Computes, I: Source, O: Sink + Failing>(
+pub fn failure_at<F: Computes, I: Source, O: Sink + Failing>(
     served: &EndedStream<F, I, O>,
     k: usize,
 ) -> Option<io::Error> {
@@ -90,12 +90,12 @@ pub(crate) fn failure_at<F: Computes, I: Source, O: Sink + Failing>(
 }
 
 /// Says why the file of this number could not be written; if memory was refused for that, that it was.
-pub(crate) fn say_output_unwritten<
-    R: Eprint + AllocGlobal,
-    F: Computes,
-    I: Source,
-    O: Sink + Failing,
->(rt: &R, outputs: &[Pair<'_>], served: &EndedStream<F, I, O>, k: usize) {
+pub fn say_output_unwritten<R: Eprint + AllocGlobal, F: Computes, I: Source, O: Sink + Failing>(
+    rt: &R,
+    outputs: &[Pair<'_>],
+    served: &EndedStream<F, I, O>,
+    k: usize,
+) {
     let Some(pair) = first_of(outputs, k) else {
         return;
     };
@@ -108,7 +108,7 @@ pub(crate) fn say_output_unwritten<
 }
 
 /// Says which token of a channel does not fit the file of this number.
-pub(crate) fn say_token<R: Eprint, F: Computes, I: Source, O: Sink>(
+pub fn say_token<R: Eprint, F: Computes, I: Source, O: Sink>(
     rt: &R,
     outputs: &[Pair<'_>],
     served: &EndedStream<F, I, O>,
@@ -135,7 +135,7 @@ fn say_misfit_at<R: Eprint>(rt: &R, pair: Option<&Pair<'_>>, tokens: u64) {
 }
 
 /// Says of which channel of the file of this number too many tokens wait for those of another one, and what would do.
-pub(crate) fn say_apart<R: Eprint, F: Computes, I: Source, O: Sink>(
+pub fn say_apart<R: Eprint, F: Computes, I: Source, O: Sink>(
     rt: &R,
     outputs: &[Pair<'_>],
     served: &EndedStream<F, I, O>,

@@ -4,7 +4,8 @@ use crate::formulas::is_unknown_name;
 use crate::hints::{has_wrong_delay, is_said, say_message, say_no_channel, wants_version_2};
 use crate::reasons::{say_clash, say_undescribed, say_unread};
 use hox_args::WordsFault;
-use hox_execute::{Asked, RefusedRequest, Stop};
+use hox_files::reading::Asked;
+use hox_files::stops::{RefusedRequest, Stop};
 use hox_network::{AllKinds, Fault, FileFault, KINDS, PresetFault, Request, sketch_by_ports};
 use kpn_front::{ExitStatus, Refused};
 use kpn_message::{message_of_delayed, messages_of_sketch};
@@ -15,7 +16,7 @@ use std::alloc::Global;
 use std::str;
 
 /// Says why what the arguments ask for is not done, and returns the exit status.
-pub(crate) fn say_stop<R: Print + Eprint + AllocGlobal>(rt: &R, stop: &Stop<'_>) -> u8 {
+pub fn say_stop<R: Print + Eprint + AllocGlobal>(rt: &R, stop: &Stop<'_>) -> u8 {
     match stop {
         Stop::Words(fault) => return say_words_refused(rt, fault),
         Stop::NoPair { option, text } => say_no_pair(rt, *option, *text),
@@ -97,7 +98,7 @@ fn say_unknown<R: Eprint>(rt: &R, request: &Request, fault: &Fault) {
 
 /// Says all that is wrong with the description in this file, or on standard input, and whether version 2 would
 /// do.
-pub(crate) fn say_refused<R: Eprint + AllocGlobal>(rt: &R, file: &str, refused: &Refused) {
+pub fn say_refused<R: Eprint + AllocGlobal>(rt: &R, file: &str, refused: &Refused) {
     let text = refused.text.as_slice();
     say_wrong(rt, file, text, refused.fault);
     if wants_version_2(rt.alloc(), text, refused.fault) {
@@ -254,7 +255,7 @@ fn say_line<R: Eprint>(rt: &R, file: &str, number: u64, line: &str, fault: Recor
 }
 
 /// Says what is wrong with a record of a file.
-pub(crate) fn say_record<R: Eprint>(rt: &R, file: &str, name: &str, number: u64, what: &str) {
+pub fn say_record<R: Eprint>(rt: &R, file: &str, name: &str, number: u64, what: &str) {
     let _ = eprintln!(rt; "hox: {name} {number} of {file} {what}");
 }
 
@@ -276,7 +277,7 @@ fn line_in(request: &Request, place: usize, number: usize) -> &str {
 }
 
 /// What a record is not, or has too much, and what would do.
-pub(crate) fn needed(fault: RecordFault) -> &'static str {
+pub fn needed(fault: RecordFault) -> &'static str {
     match fault {
         RecordFault::NotAWord => {
             "is not a word; write a number from -2^63 to 2^64 - 1, or hexadecimal after 0x"
@@ -302,12 +303,12 @@ fn line_of(bytes: &[u8], number: usize) -> &str {
 }
 
 /// How a file that is read is named: `-` is standard input.
-pub(crate) fn input_name(file: &str) -> &str {
+pub fn input_name(file: &str) -> &str {
     if file == "-" { "standard input" } else { file }
 }
 
 /// Says that memory was refused, and returns the exit status.
-pub(crate) fn say_no_memory<R: Eprint>(rt: &R) -> u8 {
+pub fn say_no_memory<R: Eprint>(rt: &R) -> u8 {
     let _ = eprintln!(rt; "hox: out of memory");
     ExitStatus::MemoryRefused.code()
 }

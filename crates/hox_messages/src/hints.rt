@@ -229,7 +229,7 @@ const MOST_NAMED: usize = 8;
 
 /// Says that a channel is unknown, and which of these channels was likely meant, or if none was, which there
 /// are, where they are few.
-pub(crate) fn say_no_channel<R: Eprint>(rt: &R, name: &str, channels: &[Text]) {
+pub fn say_no_channel<R: Eprint>(rt: &R, name: &str, channels: &[Text]) {
     let _ = eprint!(rt; "hox: unknown channel {name:?}");
     match channels
         .iter()

@@ -27,7 +27,7 @@ A kind may be a formula, such as \"y = y + (in - y) / 8; out = y\"; hox kinds fo
 const ROOM: &str = "               ";
 
 /// Prints the table of kinds, the line of one, or how formulas are written, and returns the exit status.
-pub(crate) fn list_kinds<R: Print + Eprint + AllocGlobal>(rt: &R, choice: &KindsChoice<'_>) -> u8 {
+pub fn list_kinds<R: Print + Eprint + AllocGlobal>(rt: &R, choice: &KindsChoice<'_>) -> u8 {
     let listed = match choice.name {
         None => table(rt.alloc()),
         Some("formula") => return status_of(print!(rt; "{FORMULA}")),

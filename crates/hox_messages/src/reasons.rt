@@ -1,6 +1,7 @@
 //! Why files can't be read, written, or used beside each other, on standard error.
 use crate::messages::{input_name, say_no_memory};
-use hox_execute::{ReadError, Role, Use};
+use hox_files::reading::ReadError;
+use hox_files::uses::{Role, Use};
 use hox_network::LONGEST_FILE;
 use kpn_model::limits::LONGEST_TEXT;
 use std::io;
@@ -22,21 +23,17 @@ pub(crate) fn say_unread<R: Eprint + AllocGlobal>(rt: &R, file: &str, error: Rea
 }
 
 /// Says why a file could not be read, as the system does.
-pub(crate) fn say_unreadable<R: Eprint + AllocGlobal>(rt: &R, file: &str, error: io::Error) {
+pub fn say_unreadable<R: Eprint + AllocGlobal>(rt: &R, file: &str, error: io::Error) {
     say_why(rt, "read", input_name(file), error);
 }
 
 /// Says why a file, or standard output, could not be written, as the system does.
-pub(crate) fn say_unwritten<R: Eprint + AllocGlobal>(rt: &R, file: &str, error: io::Error) {
+pub fn say_unwritten<R: Eprint + AllocGlobal>(rt: &R, file: &str, error: io::Error) {
     say_why(rt, "write", output_name(file), error);
 }
 
 /// Says why a description could not be read: for this reason of the system's, or since it is too long.
-pub(crate) fn say_undescribed<R: Eprint + AllocGlobal>(
-    rt: &R,
-    file: &str,
-    error: Option<io::Error>,
-) {
+pub fn say_undescribed<R: Eprint + AllocGlobal>(rt: &R, file: &str, error: Option<io::Error>) {
     match error {
         Some(error) => say_unreadable(rt, file, error),
         None => say_too_long(rt, file, LONGEST_TEXT),
