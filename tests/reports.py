@@ -1,7 +1,6 @@
-"""The reports that the rules demand of worked networks, from the table of the Rust tests."""
+"""The reports that the rules demand of worked networks (tests/reports.txt)."""
 import os
 import re
 
-TABLE = os.path.join(os.path.dirname(os.path.dirname(os.path.abspath(__file__))), "crates", "test_texts", "src", "reports.rt")
-with open(TABLE, encoding="utf-8") as it:
-    REPORTS = dict(re.findall(r'pub const (\w+): &str = "(.*?)";', it.read(), re.S))
+with open(os.path.join(os.path.dirname(os.path.abspath(__file__)), "reports.txt"), encoding="utf-8") as it:
+    REPORTS = dict(re.findall(r"^\[(\w+)\]\n((?:.+\n)+)", it.read(), re.M))

@@ -314,10 +314,10 @@ PAIRS = "".join(f"process a{k} stopped steps 2\nprocess b{k} stopped steps 2\n" 
 row("32 pairs", run(), net(
     " ".join(f"a{k}=count(1,1) b{k}=sink(1)" for k in range(32)), ";".join(f"c{k} a{k}.0>b{k}.0" for k in range(32))),
     "end terminated\n" + PAIRS + "".join(f"channel c{k} put 1 left 0 capacity 1\n" for k in range(32)) + "entries 128\n", 0)
-row("32 counters before their sinks", run(), net(
+row("32 counters before their sinks, the last stream", run("c31"), net(
     " ".join([*(f"a{k}=count(1,1)" for k in range(32)), *(f"b{k}=sink(1)" for k in range(32))]), ";".join(f"c{k} a{k}.0>b{k}.0" for k in range(32))),
     "end terminated\n" + "".join(f"process {it}{k} stopped steps 2\n" for it in "ab" for k in range(32))
-    + "".join(f"channel c{k} put 1 left 0 capacity 1\n" for k in range(32)) + "entries 128\n", 0)
+    + "".join(f"channel c{k} put 1 left 0 capacity 1\n" for k in range(32)) + "entries 128\nstream c31 1\n", 0)
 # Each copy feeds both inputs of its adder, and each adder the next copy: 64 processes and 96 channels, and all wait.
 row("a ring of 32 copies and adders", run(), net(
     " ".join(f"k{i}=copy a{i}=add" for i in range(32)),
@@ -325,29 +325,43 @@ row("a ring of 32 copies and adders", run(), net(
     "end deadlock\n" + "".join(f"process k{i} reads s{(i + 31) % 32} steps 0\nprocess a{i} reads c{i}_0 steps 0\n" for i in range(32))
     + "".join(f"channel {it} put 0 left 0 capacity 1\n" for i in range(32) for it in (f"c{i}_0", f"c{i}_1", f"s{i}")) + "entries 0\n", 5)
 LINKS = ["src", *(f"s{k}" for k in range(62)), "snk"]
-CHAIN = net(
-    "src=count(1,100) " + " ".join(f"s{k}=scale(1)" for k in range(62)) + " snk=sink(100)",
-    ";".join(f"c{k} {LINKS[k]}.0>{LINKS[k + 1]}.0" for k in range(63)), budget=20000)
-CHAIN_END = ("end deadlock\nprocess src stopped steps 101\n" + "".join(f"process s{k} reads c{k} steps 200\n" for k in range(62))
-    + "process snk stopped steps 101\n" + "".join(f"channel c{k} put 100 left 0 capacity 1\n" for k in range(63)) + "entries 12602\n")
-row("a chain of 64 processes", run(), CHAIN, CHAIN_END, 5)
-row("a chain of 64 processes, its last stream", run("c62"), CHAIN, CHAIN_END + "stream c62 " + " ".join(map(str, range(1, 101))) + "\n", 5)
 
-# Other starting capacities.
+
+def chain(tokens):
+    """A chain of 64 processes, through which go this many tokens, and what is written of it but for a stream."""
+    text = net(
+        f"src=count(1,{tokens}) " + " ".join(f"s{k}=scale(1)" for k in range(62)) + f" snk=sink({tokens})",
+        ";".join(f"c{k} {LINKS[k]}.0>{LINKS[k + 1]}.0" for k in range(63)), budget=30000)
+    lines = f"end deadlock\nprocess src stopped steps {tokens + 1}\n" + "".join(f"process s{k} reads c{k} steps {2 * tokens}\n" for k in range(62))
+    lines += f"process snk stopped steps {tokens + 1}\n" + "".join(f"channel c{k} put {tokens} left 0 capacity 1\n" for k in range(63))
+    return text, f"{lines}entries {126 * tokens + 2}\n"
+
+
+row("a chain of 64 processes", run(), *chain(100), 5)
+CHAIN, CHAIN_END = chain(200)
+row("a chain of 64 processes, its last stream", run("c62"), CHAIN, CHAIN_END + "stream c62 " + " ".join(map(str, range(1, 201))) + "\n", 5)
+
+# Other starting capacities; those of the streams that the first row doesn't show by one worker and by four.
 
 for code in range(256):
     sizes = [1 + code // 4 ** k % 4 for k in range(4)]
     grown = ["c2 2"] if sizes[2] == 1 else []
     ends = [sizes[0], sizes[1], max(2, sizes[2]), sizes[3]]
-    row(f"Parks's case from {sizes}", run("c3"), net(
+    text = net(
         "src=count(1,3) cp=copy wv=weave(3,3) snk=sink(6)",
-        ";".join(f"{it} capacity={size}" for it, size in zip(("c0 src.0>cp.0", "c1 cp.0>wv.0", "c2 cp.1>wv.1", "c3 wv.0>snk.0"), sizes))),
-        "end deadlock\nprocess src stopped steps 4\nprocess cp reads c0 steps 9\nprocess wv reads c1 steps 12\nprocess snk stopped steps 7\n"
-        + "".join(f"channel c{k} put {put} left 0 capacity {size}\n" for k, (put, size) in enumerate(zip((3, 3, 3, 6), ends)))
-        + "".join(f"grew {it}\n" for it in grown) + f"entries {32 + len(grown)}\nstream c3 1 2 3 1 2 3\n", 5)
-GROWN = {(1, 1): ["c0 2", "c1 2", "c0 3", "c1 3"], (4, 1): ["c1 2", "c1 3"], (3, 4): [], (2, 1): ["c1 2", "c0 3", "c1 3"]}
-for sizes, grown in GROWN.items():
-    row(f"two that grow from {sizes}", run(), two(3, 3, *sizes), two_end(3, 3, [max(3, it) for it in sizes], grown), 0)
+        ";".join(f"{it} capacity={size}" for it, size in zip(("c0 src.0>cp.0", "c1 cp.0>wv.0", "c2 cp.1>wv.1", "c3 wv.0>snk.0"), sizes)))
+    lines = "end deadlock\nprocess src stopped steps 4\nprocess cp reads c0 steps 9\nprocess wv reads c1 steps 12\nprocess snk stopped steps 7\n"
+    lines += "".join(f"channel c{k} put {put} left 0 capacity {size}\n" for k, (put, size) in enumerate(zip((3, 3, 3, 6), ends)))
+    lines += "".join(f"grew {it}\n" for it in grown) + f"entries {32 + len(grown)}\n"
+    row(f"Parks's case from {sizes}", run("c3"), text, f"{lines}stream c3 1 2 3 1 2 3\n", 5)
+    for show in ("c0", "c1", "c2"):
+        for workers in ("1", "4"):
+            row(f"Parks's case from {sizes}, {show}", [*run(show), "--workers", workers], text, f"{lines}stream {show} 1 2 3\n", 5)
+for code in range(16):
+    sizes = [1 + code // 4, 1 + code % 4]
+    grown = [f"c{k} {size}" for size in (2, 3) for k in (0, 1) if sizes[k] < size]
+    for show in ("c0", "c1"):
+        row(f"two that grow from {sizes}, {show}", run(show), two(3, 3, *sizes), two_end(3, 3, [max(3, it) for it in sizes], grown) + f"stream {show} 1 2 3\n", 0)
 
 # Version 2: tokens at the start, a step for growths, a higher ceiling.
 

@@ -14,9 +14,9 @@ use std::thread;
 /// How often the counter's body and the others were called, and how many saw the other's first call.
 #[derive(Drop)]
 pub(crate) struct Calls {
-    counter: AtomicU64,
-    others: AtomicU64,
-    seen: AtomicU64,
+    pub(crate) counter: AtomicU64,
+    pub(crate) others: AtomicU64,
+    pub(crate) seen: AtomicU64,
     waits: bool,
 }
 
@@ -29,17 +29,6 @@ impl Calls {
             seen: AtomicU64::new(0),
             waits,
         }
-    }
-
-    /// Returns how often bodies were called.
-    pub(crate) fn count(&self) -> u64 {
-        let counter = self.counter.load(Ordering::SeqCst);
-        counter.saturating_add(self.others.load(Ordering::SeqCst))
-    }
-
-    /// Returns how many saw the other's first call.
-    pub(crate) fn seen(&self) -> u64 {
-        self.seen.load(Ordering::SeqCst)
     }
 
     /// Counts a call. If it is a body's first, it may wait until the other was called. It yields between two looks. If

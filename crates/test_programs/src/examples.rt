@@ -1,4 +1,4 @@
-//! Tests of example_own_kinds and example_least_room.
+//! The examples example_own_kinds and example_least_room.
 mod flips;
-mod least_room;
-mod own_kinds;
+pub(crate) mod least_room;
+pub(crate) mod own_kinds;

@@ -1,11 +1,12 @@
-//! Networks of the standard kinds, with stateless bodies.
-use crate::checks::same;
+//! Networks of the standard kinds.
 use kpn_body::Body;
 use kpn_compute::{CardBody, bodies_of};
-use kpn_net::{Check, Net, NetFault, read_sketch};
+use kpn_front::load;
+use kpn_net::{Net, NetFault};
 use kpn_standard::Standard;
 use std::alloc::{AllocError, Global};
-use std::process::Abort;
+use std::fs;
+use std::rt::Files;
 
 /// A network and its bodies.
 #[derive(Drop)]
@@ -17,41 +18,39 @@ pub(crate) struct NetAndBodies<B: Body> {
 /// A network of the standard kinds and its stateless bodies.
 pub(crate) type StandardParts = NetAndBodies<CardBody<Standard>>;
 
-fn check_text(alloc: Global, text: &str) -> Result<Net<Standard>, NetFault> {
-    let sketch = read_sketch(alloc, text.as_bytes())?;
-    Net::check(alloc, &sketch)
-}
-
-pub(crate) fn network<R: Abort>(rt: &R, alloc: Global, text: &str) -> Net<Standard> {
-    check_text(alloc, text).expect(rt, "no network")
-}
-
-/// Errors: out of memory. Any other fault fails the test.
-fn net_or_refused<R: Abort>(
+/// Loads the description in a file. If memory is refused, the answer says so, and it is loaded once more.
+///
+/// Errors: out of memory again, or another fault.
+pub(crate) fn network<R: Files + AllocGlobal>(
     rt: &R,
-    alloc: Global,
-    text: &str,
-) -> Result<Net<Standard>, AllocError> {
-    match check_text(alloc, text) {
-        Ok(net) => Ok(net),
-        Err(fault) => {
-            same(rt, "fault", fault, NetFault::Memory);
-            Err(AllocError)
-        }
+    name: &str,
+    answer: &mut String,
+) -> Result<Net<Standard>, NetFault> {
+    let Ok(text) = fs::read_to_string(rt, name) else {
+        return Err(NetFault::Memory);
+    };
+    let first = load_text(rt.alloc(), text.as_str());
+    if let Err(NetFault::Memory) = first {
+        let _ = answer.push_str("load refused, ");
+        return load_text(rt.alloc(), text.as_str());
     }
+    first
 }
 
-/// Errors: out of memory.
-pub(crate) fn parts_or_refused<R: Abort>(
+fn load_text(alloc: Global, text: &str) -> Result<Net<Standard>, NetFault> {
+    let mut source = text.as_bytes();
+    load(alloc, &mut source)
+}
+
+/// Errors: there is no such network, or memory is refused.
+pub(crate) fn parts_of<R: Files + AllocGlobal>(
     rt: &R,
-    alloc: Global,
-    text: &str,
+    name: &str,
+    answer: &mut String,
 ) -> Result<StandardParts, AllocError> {
-    let net = net_or_refused(rt, alloc, text)?;
-    let bodies = bodies_of(alloc, &net)?;
+    let Ok(net) = network(rt, name, answer) else {
+        return Err(AllocError);
+    };
+    let bodies = bodies_of(rt.alloc(), &net)?;
     Ok(NetAndBodies { net, bodies })
-}
-
-pub(crate) fn parts_of<R: Abort>(rt: &R, alloc: Global, text: &str) -> StandardParts {
-    parts_or_refused(rt, alloc, text).expect(rt, "no memory")
 }

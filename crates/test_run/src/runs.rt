@@ -1,164 +1,125 @@
-//! Runs by several workers, against values worked out by hand.
-use crate::checks::same;
-use crate::due::{
-    COUNTER_ENDS, Due, RUNNING_SUMS_END, SMALL_SINK_ENDS, TWO_FULL_END, WOVEN_ENDS, compare,
-};
-use crate::networks::{NetAndBodies, parts_of};
+//! Runs by one worker and by several.
+use crate::gates::CountingGate;
+use crate::meeting::{Calls, Meeter, Meeting, meeters};
+use crate::networks::{NetAndBodies, network};
+use crate::telling::{tell, tell_spent};
 use kpn_body::Body;
-use kpn_machine::OpenFault;
-use kpn_run::{Finish, Gate, Open, RunFault, run};
+use kpn_net::End;
+use kpn_report::Report;
+use kpn_run::{Finish, Gate, RunFault, report, run};
 use kpn_standard::Standard;
-use std::alloc::Global;
-use std::process::Abort;
-use std::rt::Clock;
-use std::sync::Wait;
-use std::sync::atomic::{AtomicU64, Ordering};
+use std::alloc::{AllocError, Global};
+use std::fmt::Write as _;
+use std::rt::{Clock, Files};
+use std::sync::{Arc, Wait};
 use std::thread::Threads;
+use test_kit::Cells;
 
-/// Counts how often the gate is asked: once for each answer.
-#[derive(Drop)]
-pub(crate) struct CountingGate {
-    pub(crate) asked: AtomicU64,
-}
-
-impl Gate for CountingGate {
-    fn before_commit(&self, _process: usize) {
-        self.asked.fetch_add(1, Ordering::SeqCst);
+/// Answers `run NETWORK BODIES GATE WORKERS CHANNEL`: what the run leaves, what the gate saw, and how often a body saw
+/// another. WORKERS are numbers with a comma between two, which are tried in turn, with what the last failure handed back,
+/// until a run comes to its end; a number with a `-` is tried without the last body.
+pub(crate) fn tell_run<R: Threads + Wait + Clock + Files + Sync + AllocGlobal>(
+    rt: &R,
+    alloc: Global,
+    question: &mut Cells<'_>,
+    answer: &mut String,
+) -> Result<(), AllocError> {
+    let name = question.word();
+    let meeting = Meeting::read(question);
+    let gate = CountingGate::read(question);
+    let workers = question.word();
+    let channel = question.word();
+    let calls = Arc::new(alloc, Calls::new())?;
+    let parts = meeting_parts(rt, name, meeting, &calls, answer)?;
+    let finish = run_in_turn(rt, alloc, parts, workers, &gate, answer)?;
+    let report = report_again(alloc, &finish, answer)?;
+    if report.end == End::Budget {
+        return tell_spent(alloc, &finish, &report, channel, answer);
     }
+    tell(alloc, &finish, &report, channel, answer)?;
+    gate.tell(finish.net().processes(), finish.receipts(), answer)?;
+    write!(answer, " | seen {}", calls.seen())
 }
 
-#[derive(Clone, Copy, Debug, PartialEq, Eq)]
-pub(crate) enum RunRefusal {
-    Workers,
-    Open(OpenFault),
-    Memory,
-}
-
-/// No answer may be lost.
-pub(crate) fn handed_back<B: Body, R: Abort>(
+/// Errors: there is no such network, or memory is refused.
+pub(crate) fn meeting_parts<R: Files + AllocGlobal>(
     rt: &R,
-    fault: RunFault<B>,
-) -> (NetAndBodies<B>, RunRefusal) {
-    match fault {
-        RunFault::Workers { net, bodies } => (NetAndBodies { net, bodies }, RunRefusal::Workers),
-        RunFault::Open { net, bodies, fault } => (
-            NetAndBodies { net, bodies },
-            RunRefusal::Open(fault),
-        ),
-        RunFault::Memory { net, bodies } => (NetAndBodies { net, bodies }, RunRefusal::Memory),
-        RunFault::Lost { .. } => panic!(rt; "an answer was lost"),
-    }
-}
-
-pub(crate) fn finish_of<B: Body, R: Threads + Wait + Clock + Abort + Sync, G: Gate>(
-    rt: &R,
-    alloc: Global,
-    parts: NetAndBodies<B>,
-    workers: usize,
-    gate: &G,
-) -> Finish<B::Kinds> {
-    let NetAndBodies { net, bodies } = parts;
-    let Ok(finish) = run(rt, alloc, net, bodies, workers, gate) else {
-        panic!(rt; "no run");
+    name: &str,
+    meeting: Meeting,
+    calls: &Arc<Calls>,
+    answer: &mut String,
+) -> Result<NetAndBodies<Meeter>, AllocError> {
+    let Ok(net) = network(rt, name, answer) else {
+        return Err(AllocError);
     };
-    finish
+    let bodies = meeters(rt.alloc(), &net, meeting, calls)?;
+    Ok(NetAndBodies { net, bodies })
 }
 
-pub(crate) fn finish_text<R: Threads + Wait + Clock + Abort + Sync, G: Gate>(
+/// Errors: none of the runs came to its end, or memory is refused.
+fn run_in_turn<B: Body, R: Threads + Wait + Clock + Sync, G: Gate>(
     rt: &R,
     alloc: Global,
-    text: &str,
-    workers: usize,
+    parts: NetAndBodies<B>,
+    workers: &str,
     gate: &G,
-) -> Finish<Standard> {
-    finish_of(rt, alloc, parts_of(rt, alloc, text), workers, gate)
-}
-
-pub(crate) fn shows<R: Threads + Wait + Clock + Abort + Sync, G: Gate>(
-    rt: &R,
-    alloc: Global,
-    workers: usize,
-    gate: &G,
-    due: &Due,
-) {
-    let finish = finish_text(rt, alloc, due.network, workers, gate);
-    compare(rt, alloc, &finish, due).expect(rt, "no memory");
-    drop(finish);
-}
-
-/// Compares why a run fails, and returns what it returned.
-fn refused<B: Body, R: Threads + Wait + Clock + Abort + Sync>(
-    rt: &R,
-    alloc: Global,
-    parts: NetAndBodies<B>,
-    workers: usize,
-    due: (RunRefusal, u8),
-) -> NetAndBodies<B> {
-    let NetAndBodies { net, bodies } = parts;
-    let ran = run(rt, alloc, net, bodies, workers, &Open);
-    let Err(fault) = ran else {
-        panic!(rt; "not refused");
-    };
-    let number = fault.number();
-    let (parts, refusal) = handed_back(rt, fault);
-    same(rt, "refusal", (refusal, number), due);
-    parts
-}
-
-fn run_counted<B: Body, R: Threads + Wait + Clock + Abort + Sync>(
-    rt: &R,
-    alloc: Global,
-    parts: NetAndBodies<B>,
-    workers: usize,
-    due: &Due,
-) {
-    let counts = CountingGate {
-        asked: AtomicU64::new(0),
-    };
-    let finish = finish_of(rt, alloc, parts, workers, &counts);
-    compare_asked(rt, counts.asked.load(Ordering::SeqCst), due);
-    compare(rt, alloc, &finish, due).expect(rt, "no memory");
-    drop(finish);
-}
-
-/// The gate is asked at least once for each process, and at most once for each entry and process.
-fn compare_asked<R: Abort>(rt: &R, asked: u64, due: &Due) {
-    let processes = due.processes as u64;
-    let most = due.entries.saturating_add(processes);
-    let is_due = processes <= asked && asked <= most;
-    same(rt, "asked", (asked, is_due), (asked, true));
-}
-
-/// The run fails with no worker, with 17, and without one of the bodies. Then it succeeds with what came
-/// back.
-pub(crate) fn run_bodies<B: Body, R: Threads + Wait + Clock + Abort + Sync>(
-    rt: &R,
-    alloc: Global,
-    parts: NetAndBodies<B>,
-    workers: usize,
-    due: &Due,
-) {
-    let parts = refused(rt, alloc, parts, 0, (RunRefusal::Workers, 1));
-    let mut parts = refused(rt, alloc, parts, 17, (RunRefusal::Workers, 1));
-    let last = parts.bodies.pop().expect(rt, "no body");
-    let due_refusal = (RunRefusal::Open(OpenFault::Bodies), 2);
-    let mut parts = refused(rt, alloc, parts, workers, due_refusal);
-    same(rt, "pushed", parts.bodies.push(last).is_ok(), true);
-    run_counted(rt, alloc, parts, workers, due);
-}
-
-#[test]
-fn any_number_of_workers(rt: HostRuntime) {
-    for due in [
-        &COUNTER_ENDS,
-        &WOVEN_ENDS,
-        &SMALL_SINK_ENDS,
-        &TWO_FULL_END,
-        &RUNNING_SUMS_END,
-    ] {
-        for workers in [1, 2, 16] {
-            let parts = parts_of(&rt, rt.alloc(), due.network);
-            run_bodies(&rt, rt.alloc(), parts, workers, due);
+    answer: &mut String,
+) -> Result<Finish<B::Kinds>, AllocError> {
+    let mut parts = parts;
+    for workers in workers.split(",") {
+        let (digits, last) = match workers.strip_suffix("-") {
+            Some(digits) => (digits, parts.bodies.pop()),
+            None => (workers, None),
+        };
+        let NetAndBodies { net, bodies } = parts;
+        let number = digits.parse::<usize>().unwrap_or(usize::MAX);
+        match run(rt, alloc, net, bodies, number, gate) {
+            Ok(finish) => return Ok(finish),
+            Err(fault) => parts = handed_back(fault, answer)?,
+        }
+        answer.push_str(", ")?;
+        if let Some(body) = last {
+            parts.bodies.push(body)?;
         }
     }
+    Err(AllocError)
+}
+
+/// Appends the fault's number, what is wrong with the bodies, if that is it, and the numbers of processes and bodies.
+/// Returns what it hands back.
+///
+/// Errors: an answer was lost, or memory is refused.
+pub(crate) fn handed_back<B: Body>(
+    fault: RunFault<B>,
+    answer: &mut String,
+) -> Result<NetAndBodies<B>, AllocError> {
+    let number = fault.number();
+    let (parts, wrong) = match fault {
+        RunFault::Workers { net, bodies } => (NetAndBodies { net, bodies }, None),
+        RunFault::Open { net, bodies, fault } => (NetAndBodies { net, bodies }, Some(fault)),
+        RunFault::Memory { net, bodies } => (NetAndBodies { net, bodies }, None),
+        RunFault::Lost {
+            answered: _answered,
+            body: _body,
+        } => {
+            answer.push_str("lost")?;
+            return Err(AllocError);
+        }
+    };
+    let (processes, bodies) = (parts.net.processes(), parts.bodies.len());
+    write!(answer, "{number} {wrong:?} {processes} {bodies}")?;
+    Ok(parts)
+}
+
+/// If memory is refused, the answer says so, and the report is asked for once more.
+fn report_again(
+    alloc: Global,
+    finish: &Finish<Standard>,
+    answer: &mut String,
+) -> Result<Report, AllocError> {
+    if let Ok(told) = report(alloc, finish) {
+        return Ok(told);
+    }
+    answer.push_str("report refused, ")?;
+    report(alloc, finish)
 }

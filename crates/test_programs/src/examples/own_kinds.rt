@@ -1,84 +1,16 @@
-//! Lines of flip, a scale by three, and the first answers of a counter and a sink.
-use crate::checks::same;
+//! Lines of flip, a scale by three, the first answers of a counter and a sink, and a run of a flip that waits for its own
+//! output.
+use crate::counting::network_of;
 use crate::examples::flips::{FlipsRequest, run_flips};
+use crate::texts::COUNTER;
 use example_own_kinds::{Flips, first_answers, flip_answer, line_of, scale_answer};
 use kpn_machine::cards_of;
-use kpn_net::Act::{Read, Write};
-use kpn_net::Token::{Flag, Word};
-use kpn_net::{Act, Answer, Check, Kinds, Local, Net, read_sketch};
+use kpn_net::{Check, Net, Token, read_sketch};
 use std::alloc::Global;
-use std::process::Abort;
 use std::rt::Clock;
 use std::sync::Wait;
 use std::thread::Threads;
-
-const COUNTER_INTO_SINK: &str = "version = 1
-
-[[process]]
-name = \"src\"
-kind = \"count\"
-args = [1, 3]
-
-[[process]]
-name = \"snk\"
-kind = \"sink\"
-args = [3]
-
-[[channel]]
-name = \"c0\"
-from = \"src\"
-to = \"snk\"
-capacity = 1
-";
-
-fn flipped<R: Abort>(rt: &R, alloc: Global, read: Option<bool>) -> Answer {
-    flip_answer(alloc, read).expect(rt, "no memory")
-}
-
-fn compare_answer<R: Abort>(rt: &R, name: &str, answer: Answer, next: Local, act: Act) {
-    let found = answer.next;
-    same(rt, name, (found, answer.act), (next, act));
-}
-
-#[test]
-fn flip_and_scale_follow_their_lines(rt: HostRuntime) {
-    let alloc = rt.alloc();
-    let start = [0, 0, 0, 0];
-    let waits = flipped(&rt, alloc, None);
-    compare_answer(&rt, "waits", waits, [1, 0, 0, 0], Read(0));
-    let of_true = flipped(&rt, alloc, Some(true));
-    compare_answer(&rt, "true", of_true, start, Write(0, Flag(false)));
-    let of_false = flipped(&rt, alloc, Some(false));
-    compare_answer(&rt, "false", of_false, start, Write(0, Flag(true)));
-    let line = line_of(Some(Flag(true)));
-    compare_answer(&rt, "line", line, start, Write(0, Flag(false)));
-    let scaled = scale_answer(alloc, 3, 14).expect(&rt, "no memory");
-    compare_answer(&rt, "scale", scaled, start, Write(0, Word(42)));
-}
-
-fn network<K: Kinds, R: Abort>(rt: &R, alloc: Global, text: &str) -> Net<K> {
-    let sketch = read_sketch(alloc, text.as_bytes()).expect(rt, "no sketch");
-    Net::check(alloc, &sketch).expect(rt, "no network")
-}
-
-fn first_of_each<R: Abort>(rt: &R, alloc: Global) -> Vec<Answer> {
-    let net = network(rt, alloc, COUNTER_INTO_SINK);
-    first_answers(alloc, &net).expect(rt, "no memory")
-}
-
-fn compare_first<R: Abort>(rt: &R, answers: &[Answer]) {
-    let [source, sink] = answers else {
-        panic!(rt; "not two answers");
-    };
-    compare_answer(rt, "src", *source, [1, 0, 0, 0], Write(0, Word(1)));
-    compare_answer(rt, "snk", *sink, [1, 0, 0, 0], Read(0));
-}
-
-#[test]
-fn each_process_answers_first(rt: HostRuntime) {
-    let answers = first_of_each(&rt, rt.alloc());
-    compare_first(&rt, answers.as_slice());
-}
+use test_kit::Report;
 
 /// A flip that waits for its own output.
 const FLIP_LOOP: &str = "version = 1
@@ -94,32 +26,40 @@ to = \"k\"
 sort = \"flags\"
 ";
 
-const FLIP_LINES: &str = "end deadlock
-process k reads c0 steps 0
-channel c0 put 0 left 0 capacity 1
-entries 0
-stream c0
-";
+pub(crate) fn show<R: Threads + Wait + Clock + AllocGlobal + Sync>(rt: &R, report: &mut Report) {
+    let alloc = rt.alloc();
+    report.show("flip waits", flip_answer(alloc, None));
+    report.show("flip of true", flip_answer(alloc, Some(true)));
+    report.show("flip of false", flip_answer(alloc, Some(false)));
+    report.show("its line of true", line_of(Some(Token::Flag(true))));
+    report.show("a scale", scale_answer(alloc, 3, 14));
+    match network_of(alloc, COUNTER) {
+        Ok(net) => report.show("first of each", first_answers(alloc, &net)),
+        Err(_) => report.fail("the counter"),
+    }
+    show_loop(rt, alloc, report);
+}
 
-fn compare_loop<R: Threads + Wait + Clock + Abort + Sync>(
-    rt: &R,
-    alloc: Global,
-    out: &mut Vec<u8>,
-) {
-    let net: Net<Flips> = network(rt, alloc, FLIP_LOOP);
-    let cards = cards_of(alloc, &net).expect(rt, "no memory");
+fn show_loop<R: Threads + Wait + Clock + Sync>(rt: &R, alloc: Global, report: &mut Report) {
+    let Ok(sketch) = read_sketch(alloc, FLIP_LOOP.as_bytes()) else {
+        report.fail("no sketch");
+        return;
+    };
+    let checked: Result<Net<Flips>, _> = Net::check(alloc, &sketch);
+    let Ok(net) = checked else {
+        report.fail("no network");
+        return;
+    };
+    let Ok(cards) = cards_of(alloc, &net) else {
+        report.fail("no memory");
+        return;
+    };
     let request = FlipsRequest {
         cards: cards.as_slice(),
         net: Some(net),
         show: Some("c0"),
     };
-    let ran = run_flips(rt, alloc, request, out);
-    same(rt, "status", ran.expect(rt, "no memory"), 5);
-    same(rt, "lines", out.as_slice(), FLIP_LINES.as_bytes());
-}
-
-#[test]
-fn a_network_of_flips_runs(rt: HostRuntime) {
-    let mut out = Vec::new(rt.alloc());
-    compare_loop(&rt, rt.alloc(), &mut out);
+    let mut out = Vec::new(alloc);
+    report.show("a loop", run_flips(rt, alloc, request, &mut out));
+    report.show("written", std::str::from_utf8(out.as_slice()));
 }

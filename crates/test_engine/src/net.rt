@@ -1,4 +1,0 @@
-//! Tests of kpn_net.
-mod conditions;
-mod sketches;
-mod tests;

@@ -1,5 +1,0 @@
-use Rattle.std.proofs.Common.{◌≡◌, ◌≤◌}
-use Rattle.test_run.proofs.monitor.boards.watchers.Given as goal
-
-abbrev pub invariant-loop-tried : goal.invariant-loop-tried
-invariant-loop-tried l = (l.publisher.board ≡ l.board) × (l.made ≤ l.tried)
