@@ -4,10 +4,15 @@ need() {
 }
 
 # `need_tool TOOL PACKAGE..` installs the packages if the tool is missing, one script at a time, and fails the test if
-# they can't be installed: no test passes without what it needs.
+# they can't be installed: no test passes without what it needs. Where TESTS_INSTALL is `no`, as tests/quick has it, nothing is
+# installed: the script says which tool is missing, and ends with status 77, for skipped.
 need_tool() {
     local tool=$1
     shift
+    if [ "${TESTS_INSTALL-}" = no ] && ! command -v "$tool" > /dev/null; then
+        echo "$(basename "$0"): left out: all of it: there is no $tool (packages: $*)"
+        exit 77
+    fi
     (
         flock 8
         command -v "$tool" > /dev/null && exit

@@ -1,6 +1,7 @@
 """Runs the program with arguments and a text, with little overhead."""
 import os
 import select
+import shutil
 import signal
 import subprocess
 import sys
@@ -19,14 +20,29 @@ def need(path, first):
 
 
 def need_tool(tool, *packages):
-    """Installs the packages if the tool is missing, and fails the test if they can't be installed (tests/need.sh)."""
+    """Installs the packages if the tool is missing, and fails the test if they can't be installed; the test is skipped where
+    nothing is to be installed (tests/need.sh)."""
     words = ["bash", "-c", '. "$1/tests/need.sh"; shift; need_tool "$@"', sys.argv[0], TOP, tool, *packages]
-    if subprocess.run(words).returncode:
-        sys.exit(1)
+    status = subprocess.run(words).returncode
+    if status:
+        sys.exit(status)
 
 
 def need_cc():
-    need_tool("cc", "gcc", "libc6-dev")
+    need_tool(*CC)
+
+
+CC = ("cc", "gcc", "libc6-dev")
+
+
+def has_tool(part, tool, *packages):
+    """Whether a tool is there for a part of a test. If it is missing it is installed, as `need_tool` does it; where nothing is to be
+    installed, the part is left out, which is said."""
+    if os.environ.get("TESTS_INSTALL") == "no" and not shutil.which(tool):
+        print(f"{os.path.basename(sys.argv[0])}: left out: {part}: there is no {tool} (packages: {' '.join(packages)})", flush=True)
+        return False
+    need_tool(tool, *packages)
+    return True
 
 
 class Program:
